@@ -1,0 +1,28 @@
+-- What holds of the definitions. First what they are made of, then each theorem with the file that proves it.
+pub mod Choice
+pub mod Nodes
+-- streams: reading and writing are each other's inverse
+pub mod Reading
+pub mod Written
+pub mod Numbers
+pub mod ReadFuel
+pub mod Writable
+pub mod Rounds
+-- tables: components are earlier concrete records
+pub mod Earlier
+-- support and placing without fuel
+pub mod Support
+pub mod PlaceFuel
+-- bounds of every placing and fold: nodes, pairings, report, size
+pub mod Sizes
+pub mod Parts
+pub mod Reports
+pub mod Bound
+pub mod Ends
+-- demand 3: folding sound usages
+pub mod Chains
+pub mod Keeps
+pub mod Demand
+pub mod Tested
+-- the worked rows
+pub mod Bench
