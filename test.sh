@@ -1,0 +1,20 @@
+#!/usr/bin/env bash
+# Everything that must hold of this repository. The last line is the gate's: 'N passed, 0 failed'.
+set -euo pipefail
+cd "$(dirname "$0")"
+
+if ! command -v rt >/dev/null; then
+  echo "test.sh: the Rattle toolchain's command rt is not on the PATH" >&2
+  exit 2
+fi
+
+# The definitions are what a reader must believe: they stay short enough to be read in an hour.
+lines=$(cat crates/definitions/specs/*.antt | wc -l)
+echo "definitions: $lines lines"
+if [ "$lines" -ge 1200 ]; then
+  echo "test.sh: the definitions have grown past 1,200 lines" >&2
+  exit 1
+fi
+
+rt fmt --check
+rt ci
