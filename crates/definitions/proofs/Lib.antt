@@ -24,5 +24,11 @@ pub mod Chains
 pub mod Keeps
 pub mod Demand
 pub mod Tested
+-- any placing, merge and fold again: few pairings, and answers that read back
+pub mod Tops
+pub mod FewPairings
+pub mod Storable
+pub mod Stored
+pub mod ReadsBack
 -- the worked rows
 pub mod Bench

@@ -10,3 +10,4 @@ pub mod Support
 pub mod Place
 pub mod Sound
 pub mod Calls
+pub mod Inner

@@ -5,7 +5,6 @@
 --   rule 2, b a map at 0     placeEntries       rule 6, a map      placeInMap: `overlapping`, `join`, `rebuilt`
 --   rule 3, a Unused         placeInUnused      who receives       firstReceives
 --
--- Assumes nothing.
 use Prim.Native.Nat.{ℕ, zero, suc, _+_, _-_, _%_, max}
 use mathlib.Core.Bool.{Bool, true, false, _||_, not}
 use mathlib.Core.List.{List, [], _∷_, _++_}
