@@ -1,0 +1,6 @@
+pub mod Words
+pub mod Usages
+pub mod Parts
+pub mod Writing
+pub mod Moving
+pub mod Sanity

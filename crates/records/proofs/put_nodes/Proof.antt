@@ -1,0 +1,28 @@
+-- `records::put_nodes` meets its contract. One word is stored.
+-- Assumes nothing.
+use borrow.Author.Needs.{needs}
+use Rattle.records.proofs.Writing.{counted}
+use Rattle.records.proofs.put_nodes.Statement.{statement}
+use Rattle.records.proofs.put_nodes.Tie as tie
+
+mul-put32 : tie.Need-mul-put32
+mul-put32 c = search needs
+
+add-put32 : tie.Need-add-put32
+add-put32 c = search needs
+
+cast-put32 : tie.Need-cast-put32
+cast-put32 c = search needs
+
+put32-requires : tie.Need-put32-requires
+put32-requires c κs = search needs
+
+same-length : tie.Need-same-length
+same-length c = search needs
+
+returns : tie.Need-returns
+returns c = search (counted, needs)
+
+pub put-nodes-spec : {M : Type 1} → statement M
+put-nodes-spec =
+    tie.close (tie.spec mul-put32 add-put32 cast-put32 put32-requires same-length returns)

@@ -1,0 +1,104 @@
+-- `records::swap` meets its contract. Both records are read before either is written.
+-- Assumes nothing.
+use native.Mathlib.Omega.{arith}
+use borrow.Author.Needs.{needs}
+use Rattle.records.proofs.Writing.{swapped}
+use Rattle.records.proofs.swap.Statement.{statement}
+use Rattle.records.proofs.swap.Tie as tie
+
+command-requires : tie.Need-command-requires
+command-requires c κs = search needs
+
+mul-get32 : tie.Need-mul-get32
+mul-get32 c = search needs
+
+add-get32 : tie.Need-add-get32
+add-get32 c = search needs
+
+get32-requires : tie.Need-get32-requires
+get32-requires c κs = search needs
+
+max-size-requires : tie.Need-max-size-requires
+max-size-requires c κs = search needs
+
+argument-requires : tie.Need-argument-requires
+argument-requires c κs = search needs
+
+offset-requires : tie.Need-offset-requires
+offset-requires c κs = search needs
+
+command-requires-2 : tie.Need-command-requires-2
+command-requires-2 c κs = search needs
+
+mul-get32-2 : tie.Need-mul-get32-2
+mul-get32-2 c = search needs
+
+add-get32-2 : tie.Need-add-get32-2
+add-get32-2 c = search needs
+
+get32-requires-2 : tie.Need-get32-requires-2
+get32-requires-2 c κs = search needs
+
+max-size-requires-2 : tie.Need-max-size-requires-2
+max-size-requires-2 c κs = search needs
+
+argument-requires-2 : tie.Need-argument-requires-2
+argument-requires-2 c κs = search needs
+
+offset-requires-2 : tie.Need-offset-requires-2
+offset-requires-2 c κs = search needs
+
+put-record-requires : tie.Need-put-record-requires
+put-record-requires c κs = search needs
+
+put-record-requires-2 : tie.Need-put-record-requires-2
+put-record-requires-2 c κs =
+    let w : _ = c .before .before .before in
+    let jc : _ = w .before .before .before .before .before .before .before .before .before .before in
+    let k : _ = jc .before .before .before .before .before .before .before .before .before .before in
+    omega (arith, w .put-record .kept .0, k .before .before .before .pre .1)
+
+same-length : tie.Need-same-length
+same-length c = search needs
+
+returns : tie.Need-returns
+returns c =
+    let w₂ : _ = c .before .before in
+    let w₁ : _ = w₂ .before .before .before .before in
+    let jo : _ = w₁ .before .before in
+    let jt : _ = jo .before .before in
+    let jz : _ = jt .before .before in
+    let jn : _ = jz .before .before in
+    let jc : _ = jn .before .before in
+    let o : _ = jc .before .before in
+    let t : _ = o .before .before in
+    let z : _ = t .before .before in
+    let n : _ = z .before .before in
+    let k : _ = n .before .before in
+    swapped (k .before .before .before .pre .0)
+    (k .command .ensures) (n .get32 .ensures) (z .max-size .ensures) (t .argument .ensures) (o .offset .ensures)
+    (jc .command2 .ensures) (jn .get322 .ensures) (jz .max-size2 .ensures) (jt .argument2 .ensures) (jo .offset2 .ensures)
+    (w₁ .put-record .ensures) (w₂ .put-record2 .ensures)
+
+pub swap-spec : {M : Type 1} → statement M
+swap-spec =
+    tie.close
+    (tie.spec
+    command-requires
+    mul-get32
+    add-get32
+    get32-requires
+    max-size-requires
+    argument-requires
+    offset-requires
+    command-requires-2
+    mul-get32-2
+    add-get32-2
+    get32-requires-2
+    max-size-requires-2
+    argument-requires-2
+    offset-requires-2
+    put-record-requires
+    put-record-requires-2
+    same-length
+    returns)

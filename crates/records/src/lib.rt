@@ -1,0 +1,195 @@
+// Node records in lent bytes: read, written, moved down, and two runs of them exchanged.
+ghost use mathlib.Core.Path.{_≡_};
+ghost use Prim.Native.Nat.{_+_, _*_, _<_, _≤_};
+ghost use lib.ListN.{length};
+ghost use Rattle.qptr.specs.Values.{sizeOf};
+ghost use Rattle.records.specs.Words.{word, put, Copied};
+ghost use Rattle.records.specs.Records.{commandIn, countIn, sizeIn, argumentIn, offsetIn, Moved, Exchanged, Sized, Counted, Shifted, Typed, Written, Swapped, Reversed};
+use qptr::MaxSize;
+
+// The bytes of a record.
+pub const WIDTH: usize = 32;
+
+fn wide(x: u8) -> u32
+    ensures { λ r. ⌜ (r ≡ x) × (r < 256) ⌝ }
+{
+    x as u32
+}
+
+// The number in four bytes, the lowest first.
+pub fn get32(s: &[u8], i: usize) -> u32
+    requires { ⌜ i + 4 ≤ length (now s) ⌝ }
+    ensures { λ r. ⌜ r ≡ word (now (s .entry)) i ⌝ }
+{
+    wide(s[i]) + wide(s[i + 1]) * 256 + wide(s[i + 2]) * 65536 + wide(s[i + 3]) * 16777216
+}
+
+pub fn put32(s: &mut [u8], i: usize, v: u32)
+    requires { ⌜ i + 4 ≤ length (now s) ⌝ }
+    ensures { λ r. ⌜ now (s .exit) ≡ put (now (s .entry)) i v ⌝ }
+{
+    let v1 = v / 256;
+    let v2 = v1 / 256;
+    let v3 = v2 / 256;
+    s[i] = (v % 256) as u8;
+    s[i + 1] = (v1 % 256) as u8;
+    s[i + 2] = (v2 % 256) as u8;
+    s[i + 3] = (v3 % 256) as u8;
+}
+
+// The parts of record q.
+
+pub fn command(s: &[u8], q: usize) -> u32
+    requires { ⌜ q * 32 + 32 ≤ length (now s) ⌝ }
+    ensures { λ r. ⌜ r ≡ commandIn (now (s .entry)) q ⌝ }
+{
+    get32(s, q * 32)
+}
+
+pub fn nodes(s: &[u8], q: usize) -> usize
+    requires { ⌜ q * 32 + 32 ≤ length (now s) ⌝ }
+    ensures { λ r. ⌜ r ≡ countIn (now (s .entry)) q ⌝ }
+{
+    get32(s, q * 32 + 4) as usize
+}
+
+pub fn max_size(s: &[u8], q: usize) -> MaxSize
+    requires { ⌜ q * 32 + 32 ≤ length (now s) ⌝ }
+    ensures { λ r. ⌜ sizeOf r ≡ sizeIn (now (s .entry)) q ⌝ }
+{
+    if get32(s, q * 32 + 8) == 0 {
+        return MaxSize::Dynamic;
+    }
+    MaxSize::Fixed(get32(s, q * 32 + 12))
+}
+
+pub fn argument(s: &[u8], q: usize) -> u32
+    requires { ⌜ q * 32 + 32 ≤ length (now s) ⌝ }
+    ensures { λ r. ⌜ r ≡ argumentIn (now (s .entry)) q ⌝ }
+{
+    get32(s, q * 32 + 16)
+}
+
+pub fn offset(s: &[u8], q: usize) -> u32
+    requires { ⌜ q * 32 + 32 ≤ length (now s) ⌝ }
+    ensures { λ r. ⌜ r ≡ offsetIn (now (s .entry)) q ⌝ }
+{
+    get32(s, q * 32 + 20)
+}
+
+pub fn put_size(s: &mut [u8], q: usize, z: MaxSize)
+    requires { ⌜ q * 32 + 32 ≤ length (now s) ⌝ }
+    ensures { λ r. ⌜ Sized (now (s .entry)) (now (s .exit)) q (sizeOf z) ⌝ }
+{
+    match z {
+        MaxSize::Dynamic => {
+            put32(s, q * 32 + 8, 0);
+            put32(s, q * 32 + 12, 0);
+        }
+        MaxSize::Fixed(n) => {
+            put32(s, q * 32 + 8, 1);
+            put32(s, q * 32 + 12, n);
+        }
+    }
+}
+
+pub fn put_nodes(s: &mut [u8], q: usize, n: usize)
+    requires { ⌜ (q * 32 + 32 ≤ length (now s)) × (n < 4294967296) ⌝ }
+    ensures { λ r. ⌜ Counted (now (s .entry)) (now (s .exit)) q n ⌝ }
+{
+    put32(s, q * 32 + 4, n as u32);
+}
+
+pub fn put_offset(s: &mut [u8], q: usize, o: u32)
+    requires { ⌜ q * 32 + 32 ≤ length (now s) ⌝ }
+    ensures { λ r. ⌜ Shifted (now (s .entry)) (now (s .exit)) q o ⌝ }
+{
+    put32(s, q * 32 + 20, o);
+}
+
+// A leaf's command, which says how strict it is, and its type.
+pub fn put_type(s: &mut [u8], q: usize, c: u32, ty: u32)
+    requires { ⌜ q * 32 + 32 ≤ length (now s) ⌝ }
+    ensures { λ r. ⌜ Typed (now (s .entry)) (now (s .exit)) q c ty ⌝ }
+{
+    put32(s, q * 32, c);
+    put32(s, q * 32 + 16, ty);
+}
+
+pub fn put_record(s: &mut [u8], q: usize, c: u32, n: u32, z: MaxSize, t: u32, o: u32)
+    requires { ⌜ q * 32 + 32 ≤ length (now s) ⌝ }
+    ensures { λ r. ⌜ Written (now (s .entry)) (now (s .exit)) q c n (sizeOf z) t o ⌝ }
+{
+    put32(s, q * 32, c);
+    put32(s, q * 32 + 4, n);
+    put_size(s, q, z);
+    put32(s, q * 32 + 16, t);
+    put32(s, q * 32 + 20, o);
+}
+
+// n bytes from `from` on go to `to`, which is not above it.
+fn copy_down(s: &mut [u8], to: usize, from: usize, n: usize)
+    requires { ⌜ (to ≤ from) × (from + n ≤ length (now s)) ⌝ }
+    ensures { λ r. ⌜ Copied (now (s .entry)) (now (s .exit)) to from n ⌝ }
+{
+    let mut i = 0;
+    while i < n {
+        s[to + i] = s[from + i];
+        i += 1;
+    }
+}
+
+// n records from record `from` on go to record `to`, which is not above it.
+pub fn move_down(s: &mut [u8], to: usize, from: usize, n: usize)
+    requires { ⌜ (to ≤ from) × ((from + n) * 32 ≤ length (now s)) ⌝ }
+    ensures { λ r. ⌜ Moved (now (s .entry)) (now (s .exit)) to from n ⌝ }
+{
+    if to == from {
+        return;
+    }
+    copy_down(s, to * 32, from * 32, n * 32);
+}
+
+// Records i and j change places.
+fn swap(s: &mut [u8], i: usize, j: usize)
+    requires { ⌜ (i < j) × (j * 32 + 32 ≤ length (now s)) ⌝ }
+    ensures { λ r. ⌜ Swapped (now (s .entry)) (now (s .exit)) i j ⌝ }
+{
+    let c = command(s, i);
+    let n = get32(s, i * 32 + 4);
+    let z = max_size(s, i);
+    let t = argument(s, i);
+    let o = offset(s, i);
+    let jc = command(s, j);
+    let jn = get32(s, j * 32 + 4);
+    let jz = max_size(s, j);
+    let jt = argument(s, j);
+    let jo = offset(s, j);
+    put_record(s, i, jc, jn, jz, jt, jo);
+    put_record(s, j, c, n, z, t, o);
+}
+
+// The records from f to t stand in the other order.
+fn reverse(s: &mut [u8], f: usize, t: usize)
+    requires { ⌜ (f ≤ t) × (t * 32 ≤ length (now s)) ⌝ }
+    ensures { λ r. ⌜ Reversed (now (s .entry)) (now (s .exit)) f t ⌝ }
+{
+    let mut i = f;
+    let mut j = t;
+    while i + 1 < j {
+        j = j - 1;
+        swap(s, i, j);
+        i = i + 1;
+    }
+}
+
+// The first n records and the m after them change places.
+pub fn exchange(s: &mut [u8], n: usize, m: usize)
+    requires { ⌜ length (now s) ≡ (n + m) * 32 ⌝ }
+    ensures { λ r. ⌜ Exchanged (now (s .entry)) (now (s .exit)) n m ⌝ }
+{
+    let end = n + m;
+    reverse(s, 0, n);
+    reverse(s, n, end);
+    reverse(s, 0, end);
+}
