@@ -17,4 +17,15 @@ if [ "$lines" -ge 1200 ]; then
 fi
 
 rt fmt --check
+
+# The original Rust as judge: worked rows, recorded answers, generated calls, deliberate faults.
+if ! command -v cargo >/dev/null; then
+  echo "test.sh: cargo is not on the PATH; the comparison with the Rust needs it" >&2
+  exit 2
+fi
+cargo run --release --quiet --manifest-path differential/Cargo.toml -- ci
+
+# The definitions themselves, computed on recorded and generated calls.
+bash differential/definitions.sh
+
 rt ci

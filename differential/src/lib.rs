@@ -1,0 +1,15 @@
+//! The published Rust as judge, call by call. README.md says what this is and how it is run.
+
+pub mod compare;
+pub mod generate;
+pub mod library;
+pub mod notation;
+pub mod power;
+pub mod reading;
+pub mod record;
+pub mod reference;
+pub mod rows;
+pub mod shrink;
+pub mod side;
+pub mod theorems;
+pub mod usage;
