@@ -1,0 +1,17 @@
+pub mod Commands
+pub mod Places
+pub mod Numbers
+pub mod Stores
+pub mod Widths
+pub mod Pending
+pub mod Stepping
+pub mod Roots
+pub mod OwnStored
+pub mod Writing
+pub mod Subtrees
+pub mod Loaded
+pub mod Filling
+pub mod OwnRead
+pub mod Fits
+pub mod Loading
+pub mod Sanity

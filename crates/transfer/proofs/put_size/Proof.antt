@@ -1,0 +1,62 @@
+-- `transfer::put_size` meets its contract: either way it is a flag and a number that are stored.
+-- Assumes nothing.
+use mathlib.Core.Path.{_∙_}
+use native.Mathlib.Omega.{arith}
+use borrow.Author.Needs.{needs}
+use lib.ListN.{length-set}
+use Rattle.transfer.proofs.Stores.{store-dynamic, store-fixed}
+use Rattle.transfer.proofs.put_size.Statement.{statement}
+use Rattle.transfer.proofs.put_size.Tie as tie
+
+enum-told : tie.Need-enum-told
+enum-told c = search needs
+
+slice-write-out : tie.Need-slice-write-out
+slice-write-out c = search needs
+
+add-put32 : tie.Need-add-put32
+add-put32 c = search needs
+
+put32-requires : tie.Need-put32-requires
+put32-requires c κs = simp length-set (omega arith)
+
+enum-known-z : tie.Need-enum-known-z
+enum-known-z c = search needs
+
+slice-write-out-2 : tie.Need-slice-write-out-2
+slice-write-out-2 c = search needs
+
+add-put32-2 : tie.Need-add-put32-2
+add-put32-2 c = search needs
+
+put32-requires-2 : tie.Need-put32-requires-2
+put32-requires-2 c κs = simp length-set (omega arith)
+
+same-length : tie.Need-same-length
+same-length c = c .before .before .put32 .kept .0 ∙ simp length-set
+
+returns : tie.Need-returns
+returns c = search (store-dynamic, needs)
+
+same-length-2 : tie.Need-same-length-2
+same-length-2 c = c .before .before .put322 .kept .0 ∙ simp length-set
+
+returns-2 : tie.Need-returns-2
+returns-2 c = search (store-fixed, needs)
+
+pub put-size-spec : {M : Type 1} → statement M
+put-size-spec =
+    tie.close
+    (tie.spec
+    enum-told
+    slice-write-out
+    add-put32
+    put32-requires
+    enum-known-z
+    slice-write-out-2
+    add-put32-2
+    put32-requires-2
+    same-length
+    returns
+    same-length-2
+    returns-2)
