@@ -1,0 +1,66 @@
+-- A node is its own part, and then what its command asks for: the tests of the own part are those that the reader makes later.
+-- Assumes nothing.
+use Prim.Native.Nat.{ℕ, _≤_}
+use mathlib.Core.Path.{_≡_, refl, sym, _∙_}
+use mathlib.Core.Bool.{false}
+use mathlib.Core.List.{List, [], _∷_}
+use native.Mathlib.Omega.{arith}
+use borrow.Author.Tests.{eqb-true, eqb-false, ltb-true, ltb-false, ne-eqb}
+use lib.Dec.{ltb, eqb}
+use Rattle.definitions.specs.If.{if_then_else_}
+use Rattle.definitions.specs.Usage.{Size, Usage}
+use Rattle.definitions.specs.Command.{Head, argumentWidth}
+use Rattle.definitions.specs.Stream.{Read, read, _then_, number, readSize, body, nodeBy, readNode}
+use Rattle.definitions.proofs.Choice.{decide}
+use Rattle.definitions.proofs.ReadFuel.{readNode-is}
+use Rattle.definitions.proofs.Reading.{Reads, stops, gives, reads-any, reads-then, reads-is}
+use Rattle.stream.specs.Head.{own, head, below}
+use Rattle.stream.proofs.Then.{then-then}
+
+-- what the tests of an own part leave
+pub record Own (h : Head) : Type 0 where
+  pub known : h .command ≤ 0x04
+  pub stride : h .command ≡ 0x04 → h .argument ≡ 0 → ⊥
+
+module _ (c : ℕ) (s : Size) (n : ℕ) (rest : List ℕ) where
+  own-below : (node : List ℕ → Read Usage) → own c s n rest then below node ≡ body node c s n rest
+  unfolding if_then_else_
+  own-below node =
+      decide Right (ltb 0x04 c)
+      (λ e.
+      let no : (k : ℕ) → k ≤ 0x04 → eqb c k ≡ false = λ k h. ne-eqb c k (omega (arith, ltb-true 0x04 c e)) in
+      rw (no 0x00 (omega arith), no 0x01 (omega arith), no 0x02 (omega arith), no 0x03 (omega arith), no 0x04 (omega arith)))
+      λ _. decide Right (eqb c 0x04) (λ e. decide Right (eqb n 0) (λ z. rw (eqb-true c 0x04 e, z)) λ _. refl) λ _. refl
+    where
+      Right : Read Head → Type 0
+      Right r = r then below node ≡ body node c s n rest
+
+  own-own : Reads (λ h rest. Own h) (own c s n rest)
+  own-own =
+      decide (Reads _) _ (λ _. stops) λ e. decide (Reads _) _
+      (λ e₄. decide (Reads _) _ (λ _. stops) λ z. gives _ rest (record { known = omega (arith, ltb-false 0x04 c e); stride = λ _. eqb-false n 0 z }))
+      λ ne. gives _ rest (record { known = omega (arith, ltb-false 0x04 c e); stride = λ is. absurd (eqb-false c 0x04 ne is) })
+
+-- what follows an own part is read by its command
+pub node-head : (node : List ℕ → Read Usage) (bs : List ℕ) → nodeBy node bs ≡ head bs then below node
+unfolding head
+node-head node [] = refl
+node-head node (c ∷ bs) =
+    sym
+    (then-then (readSize bs) _ _ λ s bs₁.
+    then-then (number (argumentWidth c) bs₁) _ _ λ n rest.
+    own-below c s n rest node)
+
+pub read-head : (bs : List ℕ) → readNode bs ≡ head bs then below readNode
+read-head bs = readNode-is bs ∙ node-head readNode bs
+
+head-reads : (bs : List ℕ) → Reads (λ h rest. Own h) (head bs)
+unfolding head
+head-reads [] = stops
+head-reads (c ∷ bs) =
+    reads-then (reads-any (readSize bs)) λ s bs₁ _.
+    reads-then (reads-any (number (argumentWidth c) bs₁)) λ n rest _.
+    own-own c s n rest
+
+pub head-own : (bs : List ℕ) (h : Head) (rest : List ℕ) → head bs ≡ read h rest → Own h
+head-own bs h rest e = reads-is (head-reads bs) e

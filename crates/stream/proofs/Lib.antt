@@ -1,0 +1,16 @@
+pub mod Then
+pub mod Heads
+pub mod Places
+pub mod Widths
+pub mod Parts
+pub mod Deciding
+pub mod Each
+pub mod Owing
+pub mod Stepping
+pub mod Going
+pub mod Skipping
+pub mod Climbing
+pub mod Counting
+pub mod Wholes
+pub mod Firsts
+pub mod Listing
