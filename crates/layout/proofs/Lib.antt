@@ -1,0 +1,15 @@
+pub mod Clash
+pub mod Numbers
+pub mod Fields
+pub mod View
+pub mod Ends
+pub mod Layouts
+pub mod Types
+pub mod FieldRules
+pub mod Admission
+pub mod Acceptance
+pub mod Elements
+pub mod InFields
+pub mod Parts
+pub mod Finding
+pub mod Uses
