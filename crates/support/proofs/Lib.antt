@@ -1,0 +1,11 @@
+pub mod Roots
+pub mod Leaves
+pub mod Types
+pub mod Components
+pub mod Entries
+pub mod OneEntry
+pub mod Elements
+pub mod Itself
+pub mod Rules
+pub mod Asking
+pub mod Sanity

@@ -1,0 +1,80 @@
+-- Each answer of a type is the first of its rules that the tests before it leave.
+-- Assumes nothing.
+use Prim.Native.Nat.{ℕ, _<_}
+use mathlib.Core.Path.{_≡_, refl, ap, sym, _∙_}
+use mathlib.Core.Bool.{Bool, true, false, _&&_}
+use mathlib.Core.List.{List}
+use lib.Dec.{eqb}
+use lib.ListN.{length}
+use Rattle.definitions.specs.If.{if_then_else_}
+use Rattle.definitions.specs.Usage.{Size, Usage, size}
+use Rattle.definitions.specs.Table.{Setting, TypeLayout as Layout, concrete, handle, failed, layoutOf, isConcrete}
+use Rattle.definitions.specs.Support.{Asking, outside, supportRules, supports}
+use Rattle.records.specs.Records.{commandIn, sizeIn}
+use Rattle.records.specs.Usages.{At}
+use Rattle.layout.specs.Values.{partsOf, layoutIn}
+use Rattle.layout.specs.Places.{LayoutIs}
+use Rattle.layout.specs.declared.Components.{Components}
+use Rattle.layout.specs.declared.TypeLayout.{TypeLayout}
+use Rattle.layout.specs.declared.TypeLayout.the-variants.{Concrete}
+use Rattle.layout.proofs.Clash.{clash}
+use Rattle.support.specs.Known.{Known}
+use Rattle.support.specs.Answers.{WholeLeaf, Supports, ComponentSupports, ItselfSupports}
+use Rattle.support.proofs.Roots.{size-is}
+use Rattle.support.proofs.Leaves.{unused-is, used-is}
+use Rattle.support.proofs.Types.{one-step, layout-is}
+
+-- what is not concrete supports nothing
+
+no-rules : (st : Setting) (ask : Asking) (ty : ℕ) (l : Layout) (at : ℕ) (u : Usage) → isConcrete l ≡ false → false ≡ supportRules st ask ty l at u
+no-rules st ask ty (concrete n d cs) at u h = absurd (clash refl h)
+no-rules st ask ty handle at u h = refl
+no-rules st ask ty failed at u h = refl
+
+module _ {table places : List ℕ} {ty at : ℕ} {s : List ℕ} {q : ℕ} {r : TypeLayout} (l : LayoutIs table places ty r) where
+  pub not-concrete : {v : TypeLayout} → r ≡ v → isConcrete (layoutIn table v) ≡ false → Supports table places ty at s q false
+  not-concrete {v} y h = record {
+    is = λ st k b u o a.
+        rw (one-step st k ty at u, layout-is l y st k b) (no-rules st (supports st) ty (layoutIn table v) at u h);
+  }
+
+  module _ {n d : ℕ} {cs : Components} (y : r ≡ Concrete n d cs) where
+    by-rules : {v : Bool} →
+        ((st : Setting) → Known table places st → ty < length (st .table) → layoutOf (st .table) ty ≡ concrete n d (partsOf table cs) →
+        (u : Usage) (o : ℕ) → At u s q o → v ≡ supportRules st (supports st) ty (concrete n d (partsOf table cs)) at u) →
+        Supports table places ty at s q v
+    by-rules f = record {
+      is = λ st k b u o a. let e = layout-is l y st k b in rw (one-step st k ty at u, e) (f st k b e u o a);
+    }
+
+    module _ {c : ℕ} (x : c ≡ commandIn s q) where
+      pub unused-supported : c ≡ 0 → Supports table places ty at s q true
+      unfolding if_then_else_
+      unused-supported z = by-rules λ st k b e u o a. rw (unused-is u s q o a x z)
+
+      module _ {v : Bool} (z : c ≡ 0 → ⊥) (leaf : WholeLeaf ty at s q v) where
+        pub leaf-supported : v ≡ true → Supports table places ty at s q true
+        unfolding if_then_else_
+        leaf-supported t = by-rules λ st k b e u o a. rw (used-is u s q o a x z, ← leaf .is u o a, t)
+
+        module _ {g : Bool} {m : Size} (t : v ≡ false) (here : m ≡ sizeIn s q) (large : g ≡ (eqb d 0 && outside n at m)) where
+          large-is : (u : Usage) (o : ℕ) → At u s q o → (eqb d 0 && outside n at (size u)) ≡ g
+          large-is u o a = sym (large ∙ ap (λ (m : Size). eqb d 0 && outside n at m) (here ∙ size-is u s q o a))
+
+          pub large-refused : g ≡ true → Supports table places ty at s q false
+          unfolding if_then_else_
+          large-refused f = by-rules λ st k b e u o a. rw (used-is u s q o a x z, ← leaf .is u o a, t, large-is u o a, f)
+
+          module _ {h : Bool} (f : g ≡ false) (parts : ComponentSupports table places ty at s q h) where
+            pub part-supported : h ≡ true → Supports table places ty at s q true
+            unfolding if_then_else_
+            part-supported p =
+                by-rules λ st k b e u o a.
+                rw (used-is u s q o a x z, ← leaf .is u o a, t, large-is u o a, f, ← parts .is st k b n d (partsOf table cs) e u o a, p)
+
+            pub itself-asked : {i : Bool} → h ≡ false → ItselfSupports table places ty at s q i → Supports table places ty at s q i
+            unfolding if_then_else_
+            itself-asked p self =
+                by-rules λ st k b e u o a.
+                rw (used-is u s q o a x z, ← leaf .is u o a, t, large-is u o a, f, ← parts .is st k b n d (partsOf table cs) e u o a, p)
+                (self .is st k b n d (partsOf table cs) e u o a)

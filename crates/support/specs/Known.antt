@@ -1,0 +1,51 @@
+-- What a question of support is put to and put about: a type of the table that stands in the bytes, and a usage in records.
+-- Assumes nothing.
+use Prim.Native.Nat.{ℕ, _+_, _*_, _<_, _≤_}
+use mathlib.Core.Path.{_≡_}
+use mathlib.Core.List.{List}
+use mathlib.Core.Option.{some}
+use lib.ListN.{length}
+use Rattle.definitions.specs.Usage.{Usage, nodes}
+use Rattle.definitions.specs.Table.{Setting, Components as Parts, concrete, layoutOf, tableOf}
+use Rattle.records.specs.Usages.{At}
+use Rattle.layout.specs.Places.{Places, LayoutIs}
+use Rattle.layout.specs.declared.Components.{Components}
+use Rattle.layout.specs.declared.TypeLayout.the-variants.{Concrete}
+
+-- the setting's table is the one that the bytes are, and its records stand at these places
+pub record Known (table places : List ℕ) (st : Setting) : Type 0 where
+  pub read : tableOf table ≡ some (st .table)
+  pub placed : Places table (st .table) places
+
+-- there is such a setting, and the type is one of its table
+pub record TypeKnown (table places : List ℕ) (ty : ℕ) : Type 0 where
+  pub setting : Setting
+  pub known : Known table places setting
+  pub below : ty < length (setting .table)
+
+-- a usage stands from record q on, within s
+pub record Stands (s : List ℕ) (q : ℕ) : Type 0 where
+  pub usage : Usage
+  pub offset : ℕ
+  pub at : At usage s q offset
+  pub within : (q + nodes usage) * 32 ≤ length s
+  pub few : q + nodes usage ≤ 65536
+
+-- the type may be asked about the usage at record q
+pub record Askable (table places : List ℕ) (ty : ℕ) (s : List ℕ) (q : ℕ) : Type 0 where
+  pub type : TypeKnown table places ty
+  pub usage : Stands s q
+
+-- and its layout is concrete
+pub record ConcreteAskable (table places : List ℕ) (ty : ℕ) (s : List ℕ) (q : ℕ) : Type 0 where
+  pub asks : Askable table places ty s q
+  pub size : ℕ
+  pub stride : ℕ
+  pub parts : Parts
+  pub layout : layoutOf (asks .type .setting .table) ty ≡ concrete size stride parts
+
+-- these are the components of the type's layout
+pub record ComponentsOf (table places : List ℕ) (ty : ℕ) (cs : Components) : Type 0 where
+  pub size : ℕ
+  pub stride : ℕ
+  pub is : LayoutIs table places ty (Concrete size stride cs)
