@@ -1,5 +1,7 @@
 //! The published Rust as judge, call by call. README.md says what this is and how it is run.
 
+#[cfg(feature = "library-sound")]
+pub mod bench;
 pub mod compare;
 pub mod generate;
 pub mod library;

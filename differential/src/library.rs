@@ -3,6 +3,8 @@
 //! The library lands call by call. A call that is not linked is not there to be asked.
 
 use crate::side::{Answer, Call, CallKind, Side};
+use std::hint::black_box;
+use std::time::{Duration, Instant};
 
 /// C declarations: a slice is a pointer and a length. Each is linked by a feature of its own.
 #[rustfmt::skip]
@@ -88,6 +90,22 @@ impl Side for Library {
         let Lent { output, report, .. } = lent;
         Answer { number, yes, usage_length, report_length, pairings, output, report }
     }
+}
+
+/// How long so many askings of a call take, all with the same buffers.
+pub fn time(call: &Call, times: u32) -> Duration {
+    let mut lent = Lent {
+        work: vec![0xee; call.work],
+        output: call.output.bytes(),
+        report: call.report.bytes(),
+        words: [u64::MAX; 5],
+    };
+    let start = Instant::now();
+    for _ in 0..times {
+        ask(call, &mut lent);
+        black_box(&lent.words);
+    }
+    start.elapsed()
 }
 
 /// Asks the call, if it is linked.

@@ -30,6 +30,7 @@ theorems DIR                     write recorded and generated calls as theorems 
   --count 1500                   generated calls in all
   --seed 3
 power                            each deliberate fault must be noticed
+bench                            how long the port takes to read (needs the library's sound)
 ci [PATH]                        all of it, bounded (PATH: the recorded answers)";
 
 /// Where the recorded answers are looked for if no path is given.
@@ -67,10 +68,23 @@ fn run() -> Ended {
         ["replay", path, side, options @ ..] => replay(path, side, &Options::read(options)?),
         ["theorems", folder, options @ ..] => theorems(folder, options),
         ["power"] => check_power(&derived()?),
+        ["bench"] => bench_reading(),
         ["ci"] => ci(RECORDED),
         ["ci", path] => ci(path),
         _ => Err(USAGE.into()),
     }
+}
+
+#[cfg(feature = "library-sound")]
+fn bench_reading() -> Ended {
+    use differential::bench::{deep, reading, table};
+    println!("{}\n\n{}", table(&reading()), table(&deep()));
+    Ok("bench: medians of 21 runs; deep streams once".into())
+}
+
+#[cfg(not(feature = "library-sound"))]
+fn bench_reading() -> Ended {
+    Err("bench: build with the library (README.md, \"The port\")".into())
 }
 
 /// The options of a comparison.

@@ -1,0 +1,21 @@
+-- The answers of calls as the numbers that a caller in C or Rust is given.
+-- Assumes nothing.
+use Prim.Native.Nat.{ℕ}
+use mathlib.Core.Bool.{Bool, true, false}
+use mathlib.Core.List.{List, [], _∷_}
+use Rattle.definitions.specs.Calls.{Answer}
+use Rattle.calls.specs.declared.Received.{Received}
+use Rattle.calls.specs.declared.Received.the-variants.{Nobody, First, Second}
+
+abbrev pub numberOf : Received → ℕ
+numberOf Nobody = 0
+numberOf First = 1
+numberOf Second = 2
+
+abbrev pub bit : Bool → ℕ
+bit false = 0
+bit true = 1
+
+-- number, yes or no, usage length, report length, pairings
+abbrev pub numbersOf : Answer → List ℕ
+numbersOf a = a .number ∷ bit (a .yes) ∷ a .usage ∷ a .report ∷ a .pairings ∷ []

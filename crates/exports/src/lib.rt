@@ -1,0 +1,52 @@
+// The calls for C and Rust. A slice is passed as a pointer and a length.
+ghost use mathlib.Core.Path.{_≡_};
+ghost use lib.ListN.{length};
+ghost use Rattle.definitions.specs.Calls.{receiverOf, soundCall};
+ghost use Rattle.calls.specs.Answers.{answerOf, receivedOf};
+ghost use Rattle.exports.specs.Numbers.{numberOf, bit, numbersOf};
+use calls::Answer;
+use calls::Received;
+
+fn number(r: Received) -> u32
+    ensures { λ n. ⌜ n ≡ numberOf r ⌝ }
+{
+    match r {
+        Received::Nobody => 0,
+        Received::First => 1,
+        Received::Second => 2,
+    }
+}
+
+// 0 nobody, 1 the first, 2 the second.
+#[no_mangle]
+pub extern "C" fn qptr_receiver(first: &[u8], second: &[u8]) -> u32
+    ensures { λ r. ⌜ r ≡ numberOf (receivedOf (receiverOf (now (first .entry)) (now (second .entry)))) ⌝ }
+{
+    number(calls::receiving(first, second))
+}
+
+fn flag(yes: bool) -> u64
+    ensures { λ r. ⌜ r ≡ bit yes ⌝ }
+{
+    if yes { 1 } else { 0 }
+}
+
+fn numbers(a: Answer) -> [u64; 5]
+    ensures { λ r. ⌜ r ≡ numbersOf (answerOf a) ⌝ }
+{
+    [
+        a.number as u64,
+        flag(a.yes),
+        a.usage as u64,
+        a.report as u64,
+        a.pairings as u64,
+    ]
+}
+
+// The answer: number, yes or no, usage length, report length, pairings.
+#[no_mangle]
+pub extern "C" fn qptr_sound(table: &[u8], work: &mut [u8], stream: &[u8], answer: &mut [u64; 5])
+    ensures { λ r. ⌜ now (answer .exit) ≡ numbersOf (soundCall (now (table .entry)) (length (now (work .entry))) (now (stream .entry))) ⌝ }
+{
+    *answer = numbers(calls::sound(table, work, stream));
+}

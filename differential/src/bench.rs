@@ -1,0 +1,134 @@
+//! How long the port takes. Reading is timed through `sound`, which accepts, loads and looks at each node once.
+
+use crate::library::time;
+use crate::notation;
+use crate::reading::calls::{MOST_NODES, WORK_AREA};
+use crate::reading::streams::{ARRAY, MAP, UNUSED, write_memory};
+use crate::reading::tables::write_table;
+use crate::side::{Buffer, Call, CallKind};
+use crate::usage::{Entry, Kind, Size, Usage};
+use std::time::Duration;
+
+/// The runs of one figure, of which the median counts.
+const RUNS: usize = 21;
+
+/// A row of figures: what is read, its nodes and bytes, and the time of one call.
+pub struct Figure {
+    pub shape: String,
+    pub nodes: usize,
+    pub bytes: usize,
+    pub time: Duration,
+}
+
+/// Usable streams of 8, 64 and 512 nodes in four shapes.
+pub fn reading() -> Vec<Figure> {
+    let shapes: [(&str, fn(usize) -> Usage); 4] = [
+        ("flat map", flat),
+        ("maps of seven", two_levels),
+        ("nested arrays", arrays),
+        ("nested maps", maps),
+    ];
+    let mut figures = Vec::new();
+    for (shape, usage) in shapes {
+        for nodes in [8, 64, MOST_NODES] {
+            let stream = write_memory(&usage(nodes));
+            figures.push(figure(shape, nodes, stream, 20_000 / nodes as u32));
+        }
+    }
+    figures
+}
+
+/// Streams far deeper than any stack, whole, cut short and with a byte left over.
+pub fn deep() -> Vec<Figure> {
+    let arrays =
+        ("1,000,000 nested arrays", [&[ARRAY, 1, 4, 0, 0, 0, 4, 0, 0, 0][..], &[]], 1_000_000);
+    let one =
+        ("20,000 nested maps of one", [&[MAP, 1, 4, 0, 0, 0, 1, 0, 0, 0, 0, 0][..], &[]], 20_000);
+    // the deep entry first, so that it is stepped over at each level; behind it a second one
+    let second: &[u8] = &[1, 0, 0, 0, UNUSED, 1, 4, 0, 0, 0];
+    let two = (
+        "20,000 nested maps of two",
+        [&[MAP, 1, 4, 0, 0, 0, 2, 0, 0, 0, 0, 0][..], second],
+        20_000,
+    );
+    let mut figures = Vec::new();
+    for (shape, [open, close], depth) in [arrays, one, two] {
+        let whole =
+            [&[0x0a], &open.repeat(depth)[..], &[UNUSED, 1, 4, 0, 0, 0], &close.repeat(depth)[..]]
+                .concat();
+        let short = whole[..whole.len() - 1].to_vec();
+        let long = [&whole[..], &[0]].concat();
+        for (how, stream) in [("whole", whole), ("cut short", short), ("a byte left over", long)] {
+            figures.push(figure(&format!("{shape}, {how}"), depth, stream, 1));
+        }
+    }
+    figures
+}
+
+/// The figures as a table in Markdown.
+pub fn table(figures: &[Figure]) -> String {
+    let mut lines = vec![
+        "| stream | nodes | bytes | time | for each byte |".to_owned(),
+        "|---|---|---|---|---|".to_owned(),
+    ];
+    for Figure { shape, nodes, bytes, time } in figures {
+        let each = time.as_nanos() as f64 / *bytes as f64;
+        lines.push(format!("| {shape} | {nodes} | {bytes} | {time:.1?} | {each:.2} ns |"));
+    }
+    lines.join("\n")
+}
+
+fn figure(shape: &str, nodes: usize, stream: Vec<u8>, times: u32) -> Figure {
+    let bytes = stream.len();
+    let call = sound(stream);
+    let runs = if times == 1 { 1 } else { RUNS };
+    let mut figures: Vec<Duration> = (0..runs).map(|_| time(&call, times) / times).collect();
+    figures.sort_unstable();
+    Figure { shape: shape.to_owned(), nodes, bytes, time: figures[runs / 2] }
+}
+
+fn sound(first: Vec<u8>) -> Call {
+    Call {
+        kind: CallKind::Sound,
+        table: write_table(&notation::table("scalar 4")),
+        work: WORK_AREA,
+        ty: 0,
+        offset: 0,
+        first,
+        second: Vec::new(),
+        output: Buffer::NONE,
+        report: Buffer::NONE,
+    }
+}
+
+fn leaf() -> Usage {
+    Usage { size: Size::Fixed(4), kind: Kind::Leaf { strict: false, ty: 0 } }
+}
+
+fn map(size: Size, entries: impl Iterator<Item = Usage>, step: u32) -> Usage {
+    let entries = entries.zip(0..).map(|(node, i)| Entry { offset: i * step, node }).collect();
+    Usage { size, kind: Kind::Map(entries) }
+}
+
+fn flat(nodes: usize) -> Usage {
+    map(Size::Dynamic, (1..nodes).map(|_| leaf()), 4)
+}
+
+fn two_levels(nodes: usize) -> Usage {
+    let inner = |n: usize| map(Size::Fixed(32), (1..n).map(|_| leaf()), 4);
+    let full = (nodes - 1) / 7;
+    let left = (nodes - 1) % 7;
+    let all = (0..full).map(|_| 7).chain((left > 0).then_some(left));
+    map(Size::Dynamic, all.map(inner), 32)
+}
+
+fn arrays(nodes: usize) -> Usage {
+    (1..nodes).fold(leaf(), |element, _| Usage {
+        size: Size::Fixed(4),
+        kind: Kind::Array { stride: 4, element: Box::new(element) },
+    })
+}
+
+fn maps(nodes: usize) -> Usage {
+    (1..nodes).fold(leaf(), |node, _| map(Size::Fixed(4), [node].into_iter(), 4))
+}
