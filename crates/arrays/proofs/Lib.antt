@@ -1,0 +1,7 @@
+pub mod Tests
+pub mod Elements
+pub mod Strides
+pub mod Pairing
+pub mod Choosing
+pub mod Resizing
+pub mod Wrapping

@@ -1,0 +1,15 @@
+-- `arrays::todo_at` meets its contract. At 0 it is 2, and else 1.
+-- Assumes nothing.
+use borrow.Author.Needs.{needs}
+use Rattle.arrays.proofs.Tests.{todo-later}
+use Rattle.arrays.proofs.todo_at.Statement.{statement}
+use Rattle.arrays.proofs.todo_at.Tie as tie
+
+returns : tie.Need-returns
+returns c = search needs
+
+returns-2 : tie.Need-returns-2
+returns-2 c = search (todo-later, needs)
+
+pub todo-at-spec : {M : Type 1} → statement M
+todo-at-spec = tie.close (tie.spec returns returns-2)

@@ -1,0 +1,3 @@
+pub mod Resuming
+pub mod Steps
+pub mod Starts

@@ -1,0 +1,108 @@
+-- Entries behind one another, and the first of those that stand somewhere: each offset is above all before it, since they ascend.
+-- Assumes nothing.
+use Prim.Native.Nat.{ℕ, suc, _+_, _<_, _≤_}
+use mathlib.Core.Path.{_≡_, refl, sym, ap, _∙_}
+use mathlib.Core.List.{List}
+use native.Mathlib.Omega.{arith}
+use Rattle.definitions.specs.Usage.{Usage, Entries, none, entry, nodes, nodesIn, _<+>_}
+use Rattle.definitions.specs.Inner.Storable.{Ascends}
+use Rattle.definitions.proofs.Nodes.{some-node}
+use Rattle.definitions.proofs.Storable.{ascends-back, ascends-behind}
+use Rattle.records.specs.Records.{countIn, offsetIn}
+use Rattle.records.specs.Usages.{At, EntriesAt}
+use Rattle.records.proofs.Usages.{root-of}
+use Rattle.states.specs.States.{UpTo, FromOn, lastFrom}
+use Rattle.maps.specs.Runs.{Run, FirstHas}
+use Rattle.maps.specs.Joining.{Under}
+
+pub append-assoc : (x y z : Entries) → (x <+> y) <+> z ≡ x <+> (y <+> z)
+append-assoc none y z = refl
+append-assoc (entry o u x) y z = ap (entry o u) (append-assoc x y z)
+
+pub append-none : (x : Entries) → x <+> none ≡ x
+append-none none = refl
+append-none (entry o u x) = ap (entry o u) (append-none x)
+
+pub no-nodes : (es : Entries) → nodesIn es ≡ 0 → es ≡ none
+no-nodes none e = refl
+no-nodes (entry o u es) e = absurd (omega (arith, some-node u))
+
+-- The last
+
+pub last-snoc : (es : Entries) (o : ℕ) (u : Usage) (l q : ℕ) → lastFrom l q (es <+> entry o u none) ≡ q + nodesIn es
+last-snoc none o u l q = omega arith
+last-snoc (entry o′ u′ es) o u l q = last-snoc es o u q (q + nodes u′) ∙ omega arith
+
+pub last-within : (es : Entries) (l q : ℕ) → l < q → lastFrom l q es < q + nodesIn es
+last-within none l q lt = omega arith
+last-within (entry o u es) l q lt = omega (arith, last-within es q (q + nodes u) (omega (arith, some-node u)))
+
+-- The first
+
+-- the first of es, which stand from record q to record e, ends at q′
+pub record First (es : Entries) (s : List ℕ) (q e q′ : ℕ) : Type 0 where
+  pub u : Usage
+  pub rest : Entries
+  pub is : es ≡ entry (offsetIn s q) u rest
+  pub stands : At u s q (offsetIn s q)
+  pub size : q + nodes u ≡ q′
+  pub held : EntriesAt rest s q′
+  pub ends : q′ + nodesIn rest ≡ e
+
+pub first-of : (es : Entries) {s : List ℕ} {q e m q′ : ℕ} → q < e → EntriesAt es s q → q + nodesIn es ≡ e → m ≡ countIn s q → q′ ≡ q + m → First es s q e q′
+unfolding At
+first-of none lt h en em eq = absurd (omega arith)
+first-of (entry o u es) {s} {q} {q′} lt h en em eq =
+    let root = root-of u s q o (h .0) .1 in
+    let there : q + nodes u ≡ q′ = omega (arith, root .nodes) in
+    record {
+      u = u;
+      rest = es;
+      is = ap (λ (x : ℕ). entry x u es) (sym (root .offset));
+      stands = rw (root .offset) (h .0);
+      size = there;
+      held = rw there at (h .1);
+      ends = omega arith;
+    }
+
+pub first-has : {s : List ℕ} {q e r : ℕ} → r ≡ countIn s q → q < e → Run s q e → FirstHas s q e r
+first-has {s} {q} {r} er lt R =
+    let F = first-of (R .es) {q′ = q + r} lt (R .held) (R .ends) er refl in
+    record { is = er; some = omega (arith, F .size, some-node (F .u)); fits = omega (arith, F .ends) }
+
+pub run-rest : {s : List ℕ} {q e m q′ : ℕ} → Run s q e → q < e → FirstHas s q e m → q′ ≡ q + m → Run s q′ e
+run-rest {q′} R lt H eq =
+    let F = first-of (R .es) {q′ = q′} lt (R .held) (R .ends) (H .is) eq in
+    record { es = F .rest; held = F .held; ends = F .ends }
+
+-- Offsets
+
+pub under-of : (k : ℕ) (es : Entries) (o : ℕ) (u : Usage) (fs : Entries) (p : ℕ) → Ascends k p (es <+> entry o u fs) → Under o es
+under-of k none o u fs p c = tt
+under-of k (entry o′ u′ es) o u fs p c = (omega (arith, ascends-back k es (entry o u fs) (suc o′) (c .3) .0), under-of k es o u fs (suc o′) (c .3))
+
+pub under-upto : (es : Entries) {o d : ℕ} → o ≤ d → Under o es → UpTo d es
+under-upto none le h = tt
+under-upto (entry o′ u es) le h = (omega arith, under-upto es le (h .1))
+
+pub under-front : (es fs : Entries) (d : ℕ) → Under d (es <+> fs) → Under d es
+under-front none fs d h = tt
+under-front (entry o u es) fs d h = (h .0, under-front es fs d (h .1))
+
+pub upto-last : (es : Entries) (o d : ℕ) (u : Usage) → UpTo d (es <+> entry o u none) → o ≤ d
+upto-last none o d u h = h .0
+upto-last (entry o′ u′ es) o d u h = upto-last es o d u (h .1)
+
+pub upto-one-more : (es : Entries) (o d : ℕ) (u : Usage) → Under o es → o ≤ d → UpTo d (es <+> entry o u none)
+upto-one-more none o d u h le = (le, tt)
+upto-one-more (entry o′ u′ es) o d u h le = (omega arith, upto-one-more es o d u (h .1) le)
+
+pub from-less : (es : Entries) {o d : ℕ} → o ≤ d → FromOn d es → FromOn o es
+from-less none le h = tt
+from-less (entry o′ u es) le h = (omega arith, from-less es le (h .1))
+
+-- with one of the middle left out
+pub ascends-without : (k : ℕ) (low mid : Entries) (o : ℕ) (u : Usage) (high : Entries) → Ascends k 0 (low <+> mid <+> entry o u high) → Ascends k 0 (low <+> mid <+> high)
+ascends-without k low mid o u high c =
+    ascends-behind k low (mid <+> entry o u high) (mid <+> high) 0
+    (λ p c₁. ascends-behind k mid (entry o u high) high p (λ p c₂. ascends-back k (entry o u none) high p c₂) c₁) c

@@ -1,0 +1,105 @@
+-- `maps::begin_join` meets its contract. Two returns refuse; the third hands over to `next_join`, and with its answer the goal is reached.
+-- Assumes nothing.
+use borrow.Author.Needs.{needs}
+use Rattle.maps.proofs.Beginning.{run-of, refused-end, refused-entry, begun-waits, begun-starts}
+use Rattle.maps.proofs.begin_join.Statement.{statement}
+use Rattle.maps.proofs.begin_join.Tie as tie
+
+end-at-requires : tie.Need-end-at-requires
+end-at-requires c κs = search needs
+
+past32-requires : tie.Need-past32-requires
+past32-requires c κs = search needs
+
+refused-requires : tie.Need-refused-requires
+refused-requires c κs = search needs
+
+same-length : tie.Need-same-length
+same-length c = search needs
+
+returns : tie.Need-returns
+returns c = search (refused-end, needs)
+
+overlapping-requires : tie.Need-overlapping-requires
+overlapping-requires c κs = search (run-of, needs)
+
+refused-requires-2 : tie.Need-refused-requires-2
+refused-requires-2 c κs = search needs
+
+same-length-2 : tie.Need-same-length-2
+same-length-2 c = search needs
+
+returns-2 : tie.Need-returns-2
+returns-2 c = search (refused-entry, needs)
+
+sub-turn : tie.Need-sub-turn
+sub-turn c = search needs
+
+turn-requires : tie.Need-turn-requires
+turn-requires c κs = search needs
+
+sub-next-join : tie.Need-sub-next-join
+sub-next-join c = search needs
+
+add-t22 : tie.Need-add-t22
+add-t22 c = search needs
+
+byte-requires : tie.Need-byte-requires
+byte-requires c κs = search needs
+
+add-next-join : tie.Need-add-next-join
+add-next-join c = search needs
+
+next-join-requires : tie.Need-next-join-requires
+next-join-requires c κs =
+    let turned : _ = c .before .before .before .before .before .before .before .before .before in
+    let fine : _ = turned .before .before in
+    let searched : _ = fine .before in
+    let within : _ = searched .before .before in
+    let tested : _ = within .before in
+    let ended : _ = tested .before in
+    let start : _ = ended .before .before .before .before in
+    begun-waits _ _ _ _ _ _ _ _ (start .fits .d .fits) (start .pre .1 .0) (start .pre .1 .1) (ended .end-at .ensures) (tested .past32 .ensures) (within .if1 .left)
+    (searched .overlapping .ensures) (fine .if2 .left) (turned .turn .ensures) (start .pre .0) (turned .turn .kept .0)
+
+same-length-3 : tie.Need-same-length-3
+same-length-3 c = search needs
+
+same-length-4 : tie.Need-same-length-4
+same-length-4 c = search needs
+
+returns-3 : tie.Need-returns-3
+returns-3 c =
+    let turned : _ = c .before .before .before .before .before .before .before .before .before .before .before .before .before .before in
+    let fine : _ = turned .before .before in
+    let searched : _ = fine .before in
+    let within : _ = searched .before .before in
+    let tested : _ = within .before in
+    let ended : _ = tested .before in
+    let start : _ = ended .before .before .before .before in
+    begun-starts _ _ _ _ _ _ _ _ (start .fits .d .fits) (start .pre .1 .0) (start .pre .1 .1) (ended .end-at .ensures) (tested .past32 .ensures) (within .if1 .left)
+    (searched .overlapping .ensures) (fine .if2 .left) (turned .turn .ensures) (c .before .before .before .before .before .before .before .before .before .byte .ensures) (c .before .before .before .before .next-join .ensures)
+
+pub begin-join-spec : {M : Type 1} → statement M
+begin-join-spec =
+    tie.close
+    (tie.spec
+    end-at-requires
+    past32-requires
+    refused-requires
+    same-length
+    returns
+    overlapping-requires
+    refused-requires-2
+    same-length-2
+    returns-2
+    sub-turn
+    turn-requires
+    sub-next-join
+    add-t22
+    byte-requires
+    add-next-join
+    next-join-requires
+    same-length-3
+    same-length-4
+    returns-3)

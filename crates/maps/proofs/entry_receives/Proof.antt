@@ -1,0 +1,32 @@
+-- `maps::entry_receives` meets its contract. The offset that is reported is the entry's.
+-- Assumes nothing.
+use borrow.Author.Needs.{needs}
+use Rattle.maps.proofs.Receiving.{entry-took}
+use Rattle.maps.proofs.entry_receives.Statement.{statement}
+use Rattle.maps.proofs.entry_receives.Tie as tie
+
+sub-m : tie.Need-sub-m
+sub-m c = search needs
+
+offset-requires : tie.Need-offset-requires
+offset-requires c κs = search needs
+
+of-entry-requires : tie.Need-of-entry-requires
+of-entry-requires c κs = search needs
+
+sub-t13 : tie.Need-sub-t13
+sub-t13 c = search needs
+
+sub-t14 : tie.Need-sub-t14
+sub-t14 c = search needs
+
+same-length : tie.Need-same-length
+same-length c = search needs
+
+returns : tie.Need-returns
+returns c = search (entry-took, needs)
+
+pub entry-receives-spec : {M : Type 1} → statement M
+entry-receives-spec =
+    tie.close
+    (tie.spec sub-m offset-requires of-entry-requires sub-t13 sub-t14 same-length returns)

@@ -1,0 +1,39 @@
+-- `maps::straddle` meets its contract. The report is written where this placing's began.
+-- Assumes nothing.
+use borrow.Author.Needs.{needs}
+use Rattle.maps.proofs.Ending.{straddled}
+use Rattle.maps.proofs.straddle.Statement.{statement}
+use Rattle.maps.proofs.straddle.Tie as tie
+
+offset-requires : tie.Need-offset-requires
+offset-requires c κs = search needs
+
+close-requires : tie.Need-close-requires
+close-requires c κs = search needs
+
+straddle-requires : tie.Need-straddle-requires
+straddle-requires c κs = search needs
+
+finished-requires : tie.Need-finished-requires
+finished-requires c κs = search needs
+
+same-length : tie.Need-same-length
+same-length c = search needs
+
+same-length-2 : tie.Need-same-length-2
+same-length-2 c = search needs
+
+returns : tie.Need-returns
+returns c = search (straddled, needs)
+
+pub straddle-spec : {M : Type 1} → statement M
+straddle-spec =
+    tie.close
+    (tie.spec
+    offset-requires
+    close-requires
+    straddle-requires
+    finished-requires
+    same-length
+    same-length-2
+    returns)

@@ -1,0 +1,5 @@
+pub mod Ending
+pub mod Outside
+pub mod Framing
+pub mod Starting
+pub mod Roots

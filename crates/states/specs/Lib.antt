@@ -1,0 +1,4 @@
+pub mod Calls
+pub mod States
+pub mod Starts
+pub mod Ends

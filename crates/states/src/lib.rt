@@ -1,0 +1,86 @@
+// What a placing has come to, and what it has yet to do.
+ghost use mathlib.Core.Path.{_≡_};
+ghost use Rattle.states.specs.Ends.{finishedState, refusedState, Unheaded};
+
+// What a placing, or a merge, has come to. The result stands from record 0 on.
+pub struct Outcome {
+    pub refusal: u32, // 0, or 8 or 9
+    pub nodes: usize,
+    pub pairings: u32,
+    pub at: usize, // where the report goes on
+}
+
+// What a placing has yet to do. A pair stands from record x on: n nodes, and then m nodes that go into them at d.
+pub struct State {
+    pub refusal: u32,
+    pub todo: u32, // 0 finished, 1 place the pair, 2 merge it
+    pub rule: u32, // 2, 5 or 6
+    pub x: usize,
+    pub n: usize, // if finished, the nodes of the result, from record 0 on
+    pub d: u32,
+    pub m: usize,
+    pub offset: u32, // rule 6: the offset of the pair's result
+    pub rest: usize, // the nodes of the entries that come after this pair
+    pub q: usize, // rule 2: where they begin; rule 6: where the entries above begin
+    pub low: usize, // rule 6: the last of the entries below those that overlap, or 0
+    pub pairings: u32,
+    pub base: usize, // where this placing's report began
+    pub mark: usize, // rules 2 and 6: where the report stood before the pair's 31
+    pub at: usize,
+}
+
+impl State {
+    pub fn finished(n: usize, pairings: u32, at: usize) -> State
+        ensures { λ r. ⌜ r ≡ finishedState n pairings at ⌝ }
+    {
+        State {
+            refusal: 0,
+            todo: 0,
+            rule: 0,
+            x: 0,
+            n: n,
+            d: 0,
+            m: 0,
+            offset: 0,
+            rest: 0,
+            q: n,
+            low: 0,
+            pairings: pairings,
+            base: 0,
+            mark: 0,
+            at: at,
+        }
+    }
+
+    pub fn refused(refusal: u32) -> State
+        ensures { λ r. ⌜ r ≡ refusedState refusal ⌝ }
+    {
+        State {
+            refusal: refusal,
+            todo: 0,
+            rule: 0,
+            x: 0,
+            n: 1,
+            d: 0,
+            m: 0,
+            offset: 0,
+            rest: 0,
+            q: 1,
+            low: 0,
+            pairings: 0,
+            base: 0,
+            mark: 0,
+            at: 0,
+        }
+    }
+}
+
+// Where the report goes on behind the entries of a rule: a 30 with nothing behind it is taken back.
+pub fn without_heading(base: usize, at: usize) -> usize
+    ensures { λ r. ⌜ Unheaded base at r ⌝ }
+{
+    if at == std::num::wrapping_add_usize(base, 1) {
+        return base;
+    }
+    at
+}
