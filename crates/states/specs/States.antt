@@ -207,12 +207,6 @@ pub record Begins (table places s : List ℕ) (na d nb : ℕ) (rep : List ℕ) (
       → Short at (after [] 1 (placeByKind setting (place setting) a d b))
       → Next setting (after [] 1 (placeByKind setting (place setting) a d b)) rep at s′ rep′ st (na + nb)
 
--- The same of the whole placing, its sizes tested first.
-pub record Began (table places s : List ℕ) (na d nb : ℕ) (rep : List ℕ) (at : ℕ) (s′ rep′ : List ℕ) (st : State) : Type 0 where
-  pub numbers : Numbers st (na + nb)
-  pub next : (setting : Setting) → Known table places setting → (a b : Usage) → Two (length (setting .table)) s na nb a b
-      → Next setting (place setting a d b) rep at s′ rep′ st (na + nb)
-
 -- What a call gave back: if it was refused, nothing stands for anything.
 pub record Answered (s : List ℕ) (st : State) (r : Outcome) (total : ℕ) : Type 0 where
   pub some : 1 ≤ total
