@@ -34,7 +34,7 @@ bench                            how long the port takes to read (needs the libr
 ci [PATH]                        all of it, bounded (PATH: the recorded answers)";
 
 /// Where the recorded answers are looked for if no path is given.
-const RECORDED: &str = concat!(env!("CARGO_MANIFEST_DIR"), "/recorded/answers.bin");
+const RECORDED: &str = concat!(env!("CARGO_MANIFEST_DIR"), "/../crates/replay/data/answers.bin");
 
 /// Streams may be nested deeper than a usual stack allows, and all readers here recurse.
 const STACK: usize = 1 << 30;

@@ -1,7 +1,7 @@
 -- The refusals that calls share, one after the other: each is answered where its test fails, and where it does not the call goes on.
 -- Assumes nothing.
 use Prim.Native.Nat.{ℕ, _<_, _≤_}
-use mathlib.Core.Path.{_≡_, refl}
+use mathlib.Core.Path.{_≡_}
 use mathlib.Core.Bool.{Bool, true, false}
 use mathlib.Core.List.{List}
 use mathlib.Core.Option.{none as nothing}

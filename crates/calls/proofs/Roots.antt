@@ -1,19 +1,18 @@
 -- The own part that a node's bytes begin with is the own part of the usage that they are read as.
 -- Assumes nothing.
 use Prim.Native.Nat.{ℕ, zero, suc}
-use mathlib.Core.Path.{_≡_, refl, sym, ap, _∙_}
+use mathlib.Core.Path.{_≡_, refl, ap}
 use mathlib.Core.List.{List, [], _∷_}
 use native.Mathlib.Omega.{arith}
 use borrow.Author.Tests.{eqb-true}
 use lib.Dec.{eqb, ltb}
 use lib.ListN.{drop}
-use Rattle.definitions.specs.If.{if_then_else_}
-use Rattle.definitions.specs.Usage.{Size, Usage, unused, leaf, map, array, Entries, none, entry, count}
+use Rattle.definitions.specs.Usage.{Size, Usage, none, count}
 use Rattle.definitions.specs.Command.{Head, headOf, commandAt, argumentWidth}
-use Rattle.definitions.specs.Stream.{Read, broken, read, _then_, number, readSize, readEntries, readNode, body}
+use Rattle.definitions.specs.Stream.{Read, broken, _then_, number, readSize, readEntries, readNode, body}
 use Rattle.definitions.proofs.Choice.{either, decide}
 use Rattle.definitions.proofs.Reading.{Reads, stops, gives, reads-any, reads-then, reads-is}
-use Rattle.stream.specs.Head.{own, head, PartAt}
+use Rattle.stream.specs.Head.{head, PartAt}
 use Rattle.stream.proofs.Then.{never}
 use Rattle.stream.proofs.Heads.{read-head}
 use Rattle.qptr.specs.Values.{sizeOf}

@@ -1,0 +1,67 @@
+-- `run` meets its contract: a whole record has a call, and a record is counted once.
+-- Assumes nothing.
+use native.Mathlib.Omega.{arith}
+use borrow.Author.Needs.{needs}
+use Rattle.replaying.specs.Parts.{Whole}
+use Rattle.replaying.proofs.run.Statement.{statement}
+use Rattle.replaying.proofs.run.Tie as tie
+
+parts-of-requires : tie.Need-parts-of-requires
+parts-of-requires c κs = search needs
+
+enum-known-p : tie.Need-enum-known-p
+enum-known-p c = search needs
+
+enum-told : tie.Need-enum-told
+enum-told c = search needs
+
+returns : tie.Need-returns
+returns c = search needs
+
+whole : (c : tie.After-known-told) → Whole (c .before .before .before .before .before .args .s .now) (c .before .p .given .0 .0)
+whole c = rw (c .before .p .given .1) at (c .before .before .before .parts-of .ensures)
+
+shared-slice-read-match2 : tie.Need-shared-slice-read-match2
+shared-slice-read-match2 c = let w = whole (c .before) in omega arith
+
+receiver-requires : tie.Need-receiver-requires
+receiver-requires c κs = whole (c .before .before)
+
+compared-requires : tie.Need-compared-requires
+compared-requires c κs = search needs
+
+sound-requires : tie.Need-sound-requires
+sound-requires c κs = whole (c .before .before)
+
+compared-requires-2 : tie.Need-compared-requires-2
+compared-requires-2 c κs = search needs
+
+returns-2 : tie.Need-returns-2
+returns-2 c = search needs
+
+returns-3 : tie.Need-returns-3
+returns-3 c = search needs
+
+returns-4 : tie.Need-returns-4
+returns-4 c = search needs
+
+returns-5 : tie.Need-returns-5
+returns-5 c = search needs
+
+pub run-spec : {M : Type 1} → statement M
+run-spec =
+    tie.close
+    (tie.spec
+    parts-of-requires
+    enum-known-p
+    enum-told
+    returns
+    shared-slice-read-match2
+    receiver-requires
+    compared-requires
+    sound-requires
+    compared-requires-2
+    returns-2
+    returns-3
+    returns-4
+    returns-5)

@@ -1,0 +1,233 @@
+// A recorded answer: its call is made, and all that it gives back is compared. Nothing is assumed of the bytes, whose form is
+// that of `differential/README.md`.
+ghost use mathlib.Core.Path.{_≡_};
+ghost use Prim.Native.Nat.{_+_, _≤_};
+ghost use lib.ListN.{length};
+ghost use Rattle.replaying.specs.Parts.{Ends, Sized, Whole, Reads, Single};
+use calls::Answer;
+use check::same;
+use records::get32;
+
+// The longest work area and the longest buffer of a record.
+const WORK: u32 = 49160;
+
+const BUFFER: u32 = 16384;
+
+// The calls by number; supports, place, merge and fold are 1 to 4.
+const RECEIVER: u8 = 0;
+
+const FOLD: u8 = 4;
+
+const SOUND: u8 = 5;
+
+// A record begins with the call, a byte, the length of the work area, the type and the offset that are asked. Then come its three
+// parts, each with its length in front.
+const WORK_AT: usize = 1;
+
+const PARTS_AT: usize = 13;
+
+const TABLE_AT: usize = 17;
+
+// Behind them, counted from their end, come the output's length and fill byte, the report's, and the five numbers of the answer,
+// with the lengths of usage and report among them. The usage's bytes and the report's are all that follows.
+const REPORT_AT: usize = 5;
+
+const ANSWER_AT: usize = 10;
+
+const USAGE_AT: usize = 18;
+
+const TEXT_AT: usize = 22;
+
+const WRITTEN_AT: usize = 30;
+
+// Where a part ends that has its length in front of it.
+enum End {
+    At(usize),
+    Broken,
+}
+
+// Where the table, the first stream and the second one end.
+struct Parts {
+    table: usize,
+    first: usize,
+    second: usize,
+}
+
+enum Record {
+    Whole(Parts),
+    Broken,
+}
+
+// How many records were compared, and how many of them differ.
+pub struct Counts {
+    pub compared: u32,
+    pub different: u32,
+}
+
+// What came of one record.
+pub enum Ran {
+    Record(Counts),
+    Broken,
+}
+
+fn part_end(s: &[u8], at: usize) -> End
+    requires { ⌜ at ≤ length (now s) ⌝ }
+    ensures { λ r. ⌜ Ends (now (s .entry)) at r ⌝ }
+{
+    let left = s.len() - at;
+    if left < 4 {
+        return End::Broken;
+    }
+    let n = get32(s, at) as usize;
+    if left - 4 < n {
+        return End::Broken;
+    }
+    End::At(at + 4 + n)
+}
+
+// Are the work area and the buffers not too long, do the buffers hold what was written, and is that all that is left? The second
+// stream ends at `second`.
+fn sized(s: &[u8], second: usize) -> bool
+    requires { ⌜ (5 ≤ second) × (second + 30 ≤ length (now s)) ⌝ }
+    ensures { λ r. ⌜ Sized (now (s .entry)) second r ⌝ }
+{
+    if WORK < get32(s, WORK_AT) {
+        return false;
+    }
+    let output = get32(s, second);
+    let report = get32(s, second + REPORT_AT);
+    let usage = get32(s, second + USAGE_AT);
+    let text = get32(s, second + TEXT_AT);
+    if BUFFER < output {
+        return false;
+    }
+    if BUFFER < report {
+        return false;
+    }
+    if output < usage {
+        return false;
+    }
+    if report < text {
+        return false;
+    }
+    if s.len() - second - WRITTEN_AT != usage as usize + text as usize {
+        return false;
+    }
+    true
+}
+
+fn parts_of(s: &[u8]) -> Record
+    ensures { λ r. ⌜ Reads (now (s .entry)) r ⌝ }
+{
+    if s.len() < PARTS_AT {
+        return Record::Broken;
+    }
+    let End::At(table) = part_end(s, PARTS_AT) else {
+        return Record::Broken;
+    };
+    let End::At(first) = part_end(s, table) else {
+        return Record::Broken;
+    };
+    let End::At(second) = part_end(s, first) else {
+        return Record::Broken;
+    };
+    if s.len() - second < WRITTEN_AT {
+        return Record::Broken;
+    }
+    if !sized(s, second) {
+        return Record::Broken;
+    }
+    Record::Whole(Parts {
+        table,
+        first,
+        second,
+    })
+}
+
+fn flag(yes: bool) -> u32
+    ensures { λ r. ⌜ r ≤ 1 ⌝ }
+{
+    if yes { 1 } else { 0 }
+}
+
+// Are the five numbers at `at` these?
+fn answered(s: &[u8], at: usize, a: Answer) -> bool
+    requires { ⌜ at + 20 ≤ length (now s) ⌝ }
+{
+    if get32(s, at) != a.number {
+        return false;
+    }
+    if get32(s, at + 4) != flag(a.yes) {
+        return false;
+    }
+    if get32(s, at + 8) as usize != a.usage {
+        return false;
+    }
+    if get32(s, at + 12) as usize != a.report {
+        return false;
+    }
+    get32(s, at + 16) == a.pairings
+}
+
+// For the receiver the number is 0, 1 or 2: an empty part, the first stream or the second.
+fn receiver(s: &[u8], p: Parts) -> bool
+    requires { ⌜ Whole (now s) p ⌝ }
+{
+    let a = p.table + 4;
+    let b = p.first;
+    let c = p.first + 4;
+    let d = p.second;
+    let got = calls::receiver(&s[a..b], &s[c..d]);
+    match get32(s, d + ANSWER_AT) {
+        0 => got.len() == 0,
+        1 => same(got, &s[a..b]),
+        2 => same(got, &s[c..d]),
+        _ => false,
+    }
+}
+
+// The longest work area. Its length is all that lending a part of it takes.
+fn work_area() -> [u8; 49160]
+    ensures { λ r. ⌜ 49160 ≡ length r ⌝ }
+{
+    [0u8; 49160]
+}
+
+fn sound(s: &[u8], p: Parts) -> bool
+    requires { ⌜ Whole (now s) p ⌝ }
+{
+    let mut work = work_area();
+    let n = get32(s, WORK_AT) as usize;
+    let t = p.table;
+    let a = p.table + 4;
+    let b = p.first;
+    let got = calls::sound(&s[TABLE_AT..t], &mut work[..n], &s[a..b]);
+    answered(s, p.second + ANSWER_AT, got)
+}
+
+fn compared(is_same: bool) -> Ran
+    ensures { λ r. ⌜ Single r ⌝ }
+{
+    Ran::Record(Counts {
+        compared: 1,
+        different: flag(!is_same),
+    })
+}
+
+// One record, without its length in front. The calls that have no arm of their own are not compared yet.
+pub fn run(s: &[u8]) -> Ran
+    ensures { λ r. ⌜ Single r ⌝ }
+{
+    let Record::Whole(p) = parts_of(s) else {
+        return Ran::Broken;
+    };
+    match s[0] {
+        RECEIVER => compared(receiver(s, p)),
+        SOUND => compared(sound(s, p)),
+        1..=FOLD => Ran::Record(Counts {
+            compared: 0,
+            different: 0,
+        }),
+        _ => Ran::Broken,
+    }
+}
