@@ -52,7 +52,7 @@ module _ (s rep : List ℕ) (na d nb at : ℕ) (B : Beside s na nb) (plain : Pla
       go setting fits (is-array z n v) b two =
           let own : argumentIn s 0 ≡ n = two .left .0 .argument in
           rw own (pending-element setting s rep na nb (d % n) at z n v (two .left-offset) (two .left) (two .left-nodes) (two .left-fits) small _ (na + nb) b
-          (two .right-offset) (two .right) (two .right-nodes) (two .right-fits)
+          (two .right-offset) (two .right) (two .right-nodes) (two .right-fits) (B .small)
           (ap (after [] 1) (sym (right-plain two setting (place setting) d plain ∙ array-fits setting z n v d b (rw (own, right-size two) at fits)))))
 
   -- b's element goes into the element
@@ -83,7 +83,7 @@ module _ (s rep : List ℕ) (na d nb at : ℕ) (B : Beside s na nb) (plain : Pla
           let a-stands : At (array z n v) s₁ 0 (two .left-offset) = at-move (array z n v) s s₁ 0 0 (two .left-offset) (λ i lt. M .below (0 + i) (omega arith)) (two .left) in
           let f-stands : At f s₁ na (two .right .1 .0) = at-move f s s₁ (na + 1) na (two .right .1 .0) (λ i lt. M .moved i (omega arith)) (rw behind at (two .right .1 .1)) in
           pending-element setting s₁ rep na (nb - 1) 0 at z n v (two .left-offset) a-stands (two .left-nodes) (two .left-fits) small _ (na + nb) f
-          (two .right .1 .0) f-stands (omega arith) (two .right-fits .3)
+          (two .right .1 .0) f-stands (omega arith) (two .right-fits .3) (omega (arith, B .small))
           (ap (after [] 1) (sym (right-plain two setting (place setting) d plain
           ∙ array-merges setting z n v d y k f (rw (own, right-size two) at (m .longer)) (rw own at (found .0)) equal)))
 

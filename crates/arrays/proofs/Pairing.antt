@@ -12,6 +12,7 @@ use Rattle.definitions.specs.Inner.Storable.{Storable}
 use Rattle.records.specs.Usages.{At}
 use Rattle.report.proofs.Emitting.{emitted-nothing}
 use Rattle.states.specs.States.{element, Outside, act, Pending, Numbers}
+use Rattle.states.proofs.Room.{room-first}
 use Rattle.arrays.specs.Arrays.{elementTodo, elementState}
 use Rattle.arrays.proofs.Elements.{resume-element}
 
@@ -28,10 +29,10 @@ numbers-element n m r at total some more le =
 
 module _ (setting : Setting) (s rep : List ℕ) (na m r at : ℕ) (z : Size) (n : ℕ) (e : Usage) (o : ℕ) (stands : At (array z n e) s 0 o) (count : nodes (array z n e) ≡ na)
     (fits : Storable (length (setting .table)) (array z n e)) (small : at < 2 ^ 64) where
-  pub pending-element : (goal : Result Usage) (total : ℕ) (f : Usage) (p : ℕ) → At f s na p → nodes f ≡ m → Storable (length (setting .table)) f
+  pub pending-element : (goal : Result Usage) (total : ℕ) (f : Usage) (p : ℕ) → At f s na p → nodes f ≡ m → Storable (length (setting .table)) f → na + m ≤ 65536
       → after [] 1 (under (array z n) (act setting (elementTodo r) r e f)) ≡ goal → Pending setting goal rep at s rep (elementState (na - 1) m r at) total
   unfolding At Outside
-  pending-element goal total f p f-stands f-count f-fits is =
+  pending-element goal total f p f-stands f-count f-fits within is =
       let behind : na ≡ 1 + (na - 1) = omega arith in
       record {
         y = element z n;
@@ -51,6 +52,7 @@ module _ (setting : Setting) (s rep : List ℕ) (na m r at : ℕ) (z : Size) (n 
         u-fits = f-fits;
         pairs = refl;
         few = omega arith;
+        room = omega (arith, room-first e f (omega (arith, within)));
         based = refl;
         mark = omega arith;
         report = emitted-nothing rep at small;

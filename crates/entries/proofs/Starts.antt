@@ -16,6 +16,7 @@ use Rattle.states.specs.States.{entries, Placing, Outside, Next, Short, Waiting
 use Rattle.states.specs.Starts.{Beside, Starts}
 use Rattle.states.specs.declared.State.{State}
 use Rattle.states.proofs.Roots.{IsMap, is-map, right-map}
+use Rattle.states.proofs.Room.{room-first}
 use Rattle.entries.specs.Rows.{Rows}
 use Rattle.entries.proofs.Resuming.{finish-all}
 use Rattle.entries.proofs.Steps.{rows}
@@ -81,10 +82,10 @@ waiting-start s na nb at B e = go (right-map (B .two) e) (B .two)
         (W, rows s (startState na nb at) na (na + nb) W refl)
 
 -- what the steps then leave is what rule 2 gives
-pub starts : (s rep rep₁ s′ rep′ : List ℕ) (na nb at at₁ : ℕ) (st : State) → commandIn s na ≡ 3 → Emitted rep at (0x30 ∷ []) rep₁ at₁
+pub starts : (s rep rep₁ s′ rep′ : List ℕ) (na nb at at₁ : ℕ) (st : State) → Beside s na nb → commandIn s na ≡ 3 → Emitted rep at (0x30 ∷ []) rep₁ at₁
     → Moves s rep₁ (startState na nb at) na 1 at₁ (na + nb) s′ rep′ st → Starts s na 0 nb rep at s′ rep′ st
 unfolding Outside
-starts s rep rep₁ s′ rep′ na nb at at₁ st e E M = record { numbers = M .numbers; next = λ setting a b two short. go setting (right-map two e) two short }
+starts s rep rep₁ s′ rep′ na nb at at₁ st B e E M = record { numbers = M .numbers; next = λ setting a b two short. go setting (right-map two e) two short }
   where
     go : (setting : Setting) {a b : Usage} → IsMap b → Two (length (setting .table)) s na nb a b → Short at (after [] 1 (placeByKind setting (place setting) a 0 b))
         → Next setting (after [] 1 (placeByKind setting (place setting) a 0 b)) rep at s′ rep′ st (na + nb)
@@ -96,6 +97,7 @@ starts s rep rep₁ s′ rep′ na nb at at₁ st e E M = record { numbers = M .
           fits = two .left-fits;
           pairs = refl;
           few = omega arith;
+          room = omega (arith, room-first a (map z es) (omega (arith, two .left-nodes, two .right-nodes, B .small)));
           based = refl;
           report = E;
           outside = placing-start at two;

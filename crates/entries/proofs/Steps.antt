@@ -111,6 +111,7 @@ module _ (s rep : List ℕ) (st : State) (n p at total : ℕ) (W : Waiting s st 
           u-fits = h .fits .2;
           pairs = S .pairs;
           few = S .few;
+          room = omega (arith, S .room);
           based = S .based;
           mark = S .report .place;
           report = emitted-after (S .report) E;

@@ -23,6 +23,7 @@ use Rattle.states.specs.Ends.{refusedState}
 use Rattle.states.specs.declared.State.{State}
 use Rattle.states.proofs.Ending.{numbers-refused, next-refused}
 use Rattle.states.proofs.Roots.{IsMap, is-map, left-map, left-size, right-size, right-plain}
+use Rattle.states.proofs.Room.{room-first}
 use Rattle.maps.specs.Numbers.{Marks, Past}
 use Rattle.maps.specs.Runs.{Run}
 use Rattle.maps.specs.Search.{Ended, nothing, by, Starting, Parted, Parts}
@@ -220,10 +221,10 @@ module _ (s s₁ : List ℕ) (na d nb at e : ℕ) (found : Overlap) {r : Bool} (
       } in
       (W, rows-of s₁ (startState found d nb at) nb (na + nb) W refl)
 
-  pub begun-starts : {rep rep₁ s′ rep′ : List ℕ} {next : ℕ} {st′ : State} → Emitted rep at (0x30 ∷ []) rep₁ next
+  pub begun-starts : {rep rep₁ s′ rep′ : List ℕ} {next : ℕ} {st′ : State} → Beside s na nb → Emitted rep at (0x30 ∷ []) rep₁ next
       → Moves s₁ rep₁ (startState found d nb at) nb 1 next (na + nb) s′ rep′ st′ → Starts s na d nb rep at s′ rep′ st′
   unfolding Outside
-  begun-starts {rep} {s′} {rep′} {st′} E D = record {
+  begun-starts {rep} {s′} {rep′} {st′} B E D = record {
     numbers = D .numbers;
     next = λ setting a b two short.
         let G = begun two in
@@ -235,6 +236,7 @@ module _ (s s₁ : List ℕ) (na d nb at e : ℕ) (found : Overlap) {r : Bool} (
           fits = two .right-fits;
           pairs = omega arith;
           few = omega arith;
+          room = omega (arith, room-first b (map (G .z) (G .mid)) (omega (arith, two .right-nodes, B .small, G .outside .mid-count, G .outside .mid-ends, F .high)));
           based = refl;
           report = E;
           outside = G .outside;

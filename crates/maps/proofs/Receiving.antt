@@ -13,6 +13,7 @@ use Rattle.report.specs.Emitted.{Emitted}
 use Rattle.report.proofs.Emitting.{emitted-after}
 use Rattle.states.specs.States.{joins, act, Outside, Waiting, Moves}
 use Rattle.states.specs.declared.State.{State}
+use Rattle.states.proofs.Room.{spare-last}
 use Rattle.maps.specs.Runs.{LastAt}
 use Rattle.maps.specs.Joining.{Rows, Turned, intoEntry, intoB, Joint, entryState, bState, EntryTook, BTook}
 use Rattle.maps.proofs.Entries.{under-upto, from-less}
@@ -68,6 +69,7 @@ module _ (s rep : List ℕ) (st : State) (n pairings at total l : ℕ) (W : Wait
             u-fits = S .fits;
             pairs = S .pairs;
             few = S .few;
+            room = omega (arith, S .room, spare-last z low mid high (A .init) d o o (nodes b) (A .u) (A .mid-is));
             based = S .based;
             mark = S .report .place;
             report = emitted-after (S .report) (T .report);
@@ -116,6 +118,7 @@ module _ (s rep : List ℕ) (st : State) (n pairings at total l : ℕ) (W : Wait
             u-fits = A .fits;
             pairs = S .pairs;
             few = S .few;
+            room = omega (arith, S .room, spare-last z low mid high (A .init) d d o (nodes b) (A .u) (A .mid-is));
             based = S .based;
             mark = S .report .place;
             report = emitted-after (S .report) (T .report);

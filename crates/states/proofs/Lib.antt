@@ -3,3 +3,4 @@ pub mod Outside
 pub mod Framing
 pub mod Starting
 pub mod Roots
+pub mod Room

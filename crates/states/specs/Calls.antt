@@ -1,4 +1,4 @@
--- What placing and merging on records may assume, and what is left where they are done.
+-- What placing and merging on records may assume and what they leave.
 use Prim.Native.Nat.{ℕ, _+_, _*_, _%_, _^_, _≤_}
 use mathlib.Core.Path.{_≡_}
 use mathlib.Core.List.{List}
@@ -6,7 +6,7 @@ use mathlib.Core.Option.{some}
 use lib.ListN.{length}
 use Rattle.definitions.specs.Usage.{Usage, nodes}
 use Rattle.definitions.specs.Table.{Setting, tableOf}
-use Rattle.definitions.specs.Place.{Result, refused, done}
+use Rattle.definitions.specs.Place.{Result, refused, done, place, mergeMem}
 use Rattle.definitions.specs.Inner.Storable.{Storable}
 use Rattle.records.specs.Usages.{At}
 use Rattle.layout.specs.Places.{Places}
@@ -40,6 +40,10 @@ pub record Ready (table places s : List ℕ) (na nb : ℕ) : Type 0 where
   pub right-some : 1 ≤ nb
   pub small : na + nb ≤ 65536
 
+-- the report, at this position, and those on the way down through n nodes, stay far from where positions wrap
+abbrev pub Near : ℕ → ℕ → Type 0
+Near at n = at + n * 2 ^ 38 ≤ 2 ^ 62
+
 -- the usage u stands from record 0 on, with the report w behind what was reported before, and q pairings
 pub record Fine (u : Usage) (w : List ℕ) (q : ℕ) (s : List ℕ) (ref n p : ℕ) (rep : List ℕ) (at : ℕ) (rep′ : List ℕ) (at′ : ℕ) : Type 0 where
   pub answered : ref ≡ 0
@@ -53,3 +57,15 @@ pub record Fine (u : Usage) (w : List ℕ) (q : ℕ) (s : List ℕ) (ref n p : �
 abbrev pub Done : Result Usage → List ℕ → ℕ → ℕ → ℕ → List ℕ → ℕ → List ℕ → ℕ → Type 0
 Done (refused k) s ref n p rep at rep′ at′ = (ref ≡ k) × (1 ≤ k)
 Done (done u w q) s ref n p rep at rep′ at′ = Fine u w q s ref n p rep at rep′ at′
+
+-- what placing at d, and merging, give; with the setting first, for the contracts
+unfoldable pub placing : ℕ → Setting → Usage → Usage → Result Usage
+placing d st a b = place st a d b
+
+unfoldable pub merging : Setting → Usage → Usage → Result Usage
+merging st a b = mergeMem st a b
+
+-- the contract of `merge_mem_at` and `merge_mem`
+pub record Placed (x : Setting → Usage → Usage → Result Usage) (table places s : List ℕ) (na nb : ℕ) (s′ : List ℕ) (ref n p : ℕ) (rep : List ℕ) (at : ℕ) (rep′ : List ℕ) (at′ : ℕ) : Type 0 where
+  pub few : n ≤ na + nb
+  pub done : (st : Setting) → Known table places st → (a b : Usage) → Two (length (st .table)) s na nb a b → Done (x st a b) s′ ref n p rep at rep′ at′

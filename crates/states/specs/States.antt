@@ -9,6 +9,7 @@ use Rattle.definitions.specs.Stream.{bytes}
 use Rattle.definitions.specs.Table.{Setting}
 use Rattle.definitions.specs.Place.{Result, refused, done, after, headed, ofEntry, Joining, joined, rebuilt, placeEntries, joinNext, placeByKind, placeOne, place, mergeMem}
 use Rattle.definitions.specs.Inner.Storable.{Storable, Ascends}
+use Rattle.definitions.specs.Inner.Pairs.{pairs as apart, pairsIn as apartIn}
 use Rattle.records.specs.Records.{commandIn, sizeIn, argumentIn}
 use Rattle.records.specs.Usages.{At, EntriesAt}
 use Rattle.report.specs.Emitted.{Emitted}
@@ -61,6 +62,12 @@ unfoldable pub act : Setting → ℕ → ℕ → Usage → Usage → Result Usag
 act st zero d t u = place st t d u
 act st (suc zero) d t u = place st t d u
 act st (suc (suc n)) d t u = mergeMem st t u
+
+-- the pairs of nodes that can still be met, where what stands so far has n nodes
+abbrev pub spare : Beyond → ℕ → ℕ
+spare (entries es) n = apartIn es + n * nodesIn es
+spare (element z n) m = 0
+spare (joins z low mid high d) n = apartIn mid + n * nodesIn mid
 
 -- Where what is outside of the pair stands. The pair, or its result, has w nodes from record x on.
 
@@ -128,6 +135,7 @@ pub record Standing (k : ℕ) (y : Beyond) (u : Usage) (w : List ℕ) (p : ℕ) 
   pub fits : Storable k u
   pub pairs : pairings ≡ suc p % 2 ^ 32
   pub few : length w ≤ 14 * p
+  pub room : p + apart u + spare y (nodes u) ≤ 2 ^ 32
   pub based : st .base ≡ base
   pub report : Emitted rep₀ base (heading y ++ w) rep at
   pub outside : Outside k y s st total
@@ -151,6 +159,7 @@ pub record Pending (setting : Setting) (goal : Result Usage) (rep₀ : List ℕ)
   pub u-fits : Storable (length (setting .table)) u
   pub pairs : st .pairings ≡ suc p % 2 ^ 32
   pub few : length w ≤ 14 * p
+  pub room : p + apart t + apart u + nodes t * nodes u + spare y (nodes t + nodes u) ≤ 2 ^ 32
   pub based : st .base ≡ base
   pub mark : st .mark ≡ (base + length (heading y ++ w)) % 2 ^ 64
   pub report : Emitted rep₀ base ((heading y ++ w) ++ entryHead y o) rep (st .at)
@@ -207,13 +216,19 @@ pub record Begins (table places s : List ℕ) (na d nb : ℕ) (rep : List ℕ) (
       → Short at (after [] 1 (placeByKind setting (place setting) a d b))
       → Next setting (after [] 1 (placeByKind setting (place setting) a d b)) rep at s′ rep′ st (na + nb)
 
+-- The same of the whole placing, its sizes tested first.
+pub record Began (table places s : List ℕ) (na d nb : ℕ) (rep : List ℕ) (at : ℕ) (s′ rep′ : List ℕ) (st : State) : Type 0 where
+  pub numbers : Numbers st (na + nb)
+  pub next : (setting : Setting) → Known table places setting → (a b : Usage) → Two (length (setting .table)) s na nb a b
+      → Next setting (place setting a d b) rep at s′ rep′ st (na + nb)
+
 -- What a call gave back: if it was refused, nothing stands for anything.
 pub record Answered (s : List ℕ) (st : State) (r : Outcome) (total : ℕ) : Type 0 where
   pub some : 1 ≤ total
   pub waits : r .refusal ≡ 0 → Waiting s st (r .nodes) total
 
 -- The pair gave u, with the report w′ and p′ pairings.
-pub record Given (k : ℕ) (y : Beyond) (o : ℕ) (w : List ℕ) (rep₀ : List ℕ) (base : ℕ) (u : Usage) (w′ : List ℕ) (p′ : ℕ) (s rep : List ℕ) (st : State) (r : Outcome) : Type 0 where
+pub record Given (k : ℕ) (y : Beyond) (o : ℕ) (w : List ℕ) (p : ℕ) (rep₀ : List ℕ) (base : ℕ) (u : Usage) (w′ : List ℕ) (p′ : ℕ) (s rep : List ℕ) (st : State) (r : Outcome) : Type 0 where
   pub answered : r .refusal ≡ 0
   pub offset : ℕ
   pub stands : At u s (st .x) offset
@@ -221,11 +236,12 @@ pub record Given (k : ℕ) (y : Beyond) (o : ℕ) (w : List ℕ) (rep₀ : List 
   pub fits : Storable k u
   pub pairs : r .pairings ≡ p′ % 2 ^ 32
   pub short : length w′ ≤ 14 * p′ - 5
+  pub room : p + p′ + apart u + spare y (nodes u) ≤ 2 ^ 32
   pub report : Emitted rep₀ base (((heading y ++ w) ++ entryHead y o) ++ w′) rep (r .at)
 
-abbrev pub Gave : ℕ → Beyond → ℕ → List ℕ → List ℕ → ℕ → Result Usage → List ℕ → List ℕ → State → Outcome → Type 0
-Gave k y o w rep₀ base (refused n) s rep st r = (r .refusal ≡ n) × (1 ≤ n)
-Gave k y o w rep₀ base (done u w′ p′) s rep st r = Given k y o w rep₀ base u w′ p′ s rep st r
+abbrev pub Gave : ℕ → Beyond → ℕ → List ℕ → ℕ → List ℕ → ℕ → Result Usage → List ℕ → List ℕ → State → Outcome → Type 0
+Gave k y o w p rep₀ base (refused n) s rep st r = (r .refusal ≡ n) × (1 ≤ n)
+Gave k y o w p rep₀ base (done u w′ p′) s rep st r = Given k y o w p rep₀ base u w′ p′ s rep st r
 
 -- The pending pair has been placed or merged, and gave x: with it the goal will be reached.
 pub record Took (setting : Setting) (goal : Result Usage) (rep₀ : List ℕ) (base : ℕ) (s rep : List ℕ) (st : State) (r : Outcome) (total : ℕ) : Type 0 where
@@ -235,9 +251,10 @@ pub record Took (setting : Setting) (goal : Result Usage) (rep₀ : List ℕ) (b
   pub p : ℕ
   pub x : Result Usage
   pub comes : resume setting y o w p x ≡ goal
-  pub gave : Gave (length (setting .table)) y o w rep₀ base x s rep st r
+  pub gave : Gave (length (setting .table)) y o w p rep₀ base x s rep st r
   pub pairs : st .pairings ≡ suc p % 2 ^ 32
   pub few : length w ≤ 14 * p
+  pub near : base < 2 ^ 63
   pub based : st .base ≡ base
   pub mark : st .mark ≡ (base + length (heading y ++ w)) % 2 ^ 64
   pub at-was : st .at ≡ (base + length ((heading y ++ w) ++ entryHead y o)) % 2 ^ 64

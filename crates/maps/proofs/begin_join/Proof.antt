@@ -78,7 +78,7 @@ returns-3 c =
     let ended : _ = tested .before in
     let start : _ = ended .before .before .before .before in
     begun-starts _ _ _ _ _ _ _ _ (start .fits .d .fits) (start .pre .1 .0) (start .pre .1 .1) (ended .end-at .ensures) (tested .past32 .ensures) (within .if1 .left)
-    (searched .overlapping .ensures) (fine .if2 .left) (turned .turn .ensures) (c .before .before .before .before .before .before .before .before .before .byte .ensures) (c .before .before .before .before .next-join .ensures)
+    (searched .overlapping .ensures) (fine .if2 .left) (turned .turn .ensures) (start .pre .0) (c .before .before .before .before .before .before .before .before .before .byte .ensures) (c .before .before .before .before .next-join .ensures)
 
 pub begin-join-spec : {M : Type 1} → statement M
 begin-join-spec =
