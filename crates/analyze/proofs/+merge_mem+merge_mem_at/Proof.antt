@@ -1,0 +1,248 @@
+use borrow.Author.Needs.{needs}
+use mathlib.Core.Path.{refl}
+use Prim.Native.Nat.{ℕ, _+_, _*_, _<_}
+use native.Mathlib.Omega.{arith}
+use Rattle.analyze.proofs.Loop.{Loop, loop-first, loop-last, pair-ready, pair-near, pair-answered, loop-again, is-merging, is-placing}
+use Rattle.analyze.proofs.Merging.{ready-exchanged, merged-left, merged-right}
+use borrow.Fn.Kinds.{In}
+use borrow.Fn.PlainCycle.{Measures, is, falls, and}
+use Rattle.analyze.proofs.merge_mem.Reads as merge-mem
+use Rattle.analyze.proofs.merge_mem.Kinds as merge-mem-kinds
+use Rattle.analyze.proofs.+merge_mem+merge_mem_at.Lts-merge_mem as merge-mem-lts
+use Rattle.analyze.proofs.merge_mem_at.Reads as merge-mem-at′
+use Rattle.analyze.proofs.merge_mem_at.Kinds as merge-mem-at-kinds
+use Rattle.analyze.proofs.+merge_mem+merge_mem_at.Lts-merge_mem_at as merge-mem-at-lts
+use Rattle.rules.proofs.begin.Reads as begin-reads
+use Rattle.rules.proofs.settle.Reads as settle-reads
+use Rattle.analyze.proofs.top.Reads as top-reads
+use Rattle.qptr.proofs.first_receives.Reads as first-receives-reads
+use Rattle.records.proofs.exchange.Reads as exchange-reads
+use Rattle.analyze.proofs.+merge_mem+merge_mem_at.{statement}
+use Rattle.analyze.proofs.+merge_mem+merge_mem_at.Tie.{close}
+
+abbrev μ-merge-mem : Measures 4 merge-mem-kinds.ps ℕ
+μ-merge-mem κs a = (a .1 .1 .1 .0 + a .1 .1 .1 .1 .0) * 2 + 1
+
+abbrev μ-merge-mem-at : Measures 4 merge-mem-at-kinds.ps ℕ
+μ-merge-mem-at κs a = (a .1 .1 .1 .0 + a .1 .1 .1 .1 .1 .0) * 2
+
+abbrev merge-mem-at : ℕ → In 4 merge-mem-kinds.ps
+merge-mem-at t = and 4 merge-mem-kinds.ps (is 4 merge-mem-kinds.ps μ-merge-mem t) merge-mem.Pre
+
+abbrev merge-mem-below : ℕ → In 4 merge-mem-kinds.ps
+merge-mem-below t =
+    and 4 merge-mem-kinds.ps (falls 4 merge-mem-kinds.ps _<_ μ-merge-mem t) merge-mem.Pre
+
+abbrev merge-mem-at-at : ℕ → In 4 merge-mem-at-kinds.ps
+merge-mem-at-at t =
+    and 4 merge-mem-at-kinds.ps (is 4 merge-mem-at-kinds.ps μ-merge-mem-at t) merge-mem-at′.Pre
+
+abbrev merge-mem-at-below : ℕ → In 4 merge-mem-at-kinds.ps
+merge-mem-at-below t =
+    and
+    4
+    merge-mem-at-kinds.ps
+    (falls 4 merge-mem-at-kinds.ps _<_ μ-merge-mem-at t)
+    merge-mem-at′.Pre
+
+abbrev merge-mem-claims : ℕ → merge-mem-lts.Claims
+merge-mem-claims t = (top-reads.Asked, top-reads.Learnt, first-receives-reads.Asked, first-receives-reads.Learnt, merge-mem-at-below t, merge-mem-at′.Post, exchange-reads.Asked, exchange-reads.Learnt)
+
+abbrev merge-mem-at-claims : ℕ → merge-mem-at-lts.Claims
+merge-mem-at-claims t = (begin-reads.Asked, begin-reads.Learnt, merge-mem-below t, merge-mem.Post, settle-reads.Asked, settle-reads.Learnt, merge-mem-at-below t, merge-mem-at′.Post)
+
+-- src/lib.rt:97:23
+merge-mem-top-requires : (t : ℕ) → merge-mem-lts.Need-top-requires (merge-mem-claims t) (merge-mem-at t) merge-mem.Post
+merge-mem-top-requires t c κs = search needs
+
+-- src/lib.rt:97:34
+merge-mem-top-requires-2 : (t : ℕ) → merge-mem-lts.Need-top-requires-2 (merge-mem-claims t) (merge-mem-at t) merge-mem.Post
+merge-mem-top-requires-2 t c κs = search needs
+
+-- src/lib.rt:97:8
+merge-mem-first-receives-requires : (t : ℕ) → merge-mem-lts.Need-first-receives-requires (merge-mem-claims t) (merge-mem-at t) merge-mem.Post
+merge-mem-first-receives-requires t c κs = search needs
+
+-- src/lib.rt:98:9
+merge-mem-merge-mem-at-requires : (t : ℕ) → merge-mem-lts.Need-merge-mem-at-requires (merge-mem-claims t) (merge-mem-at t) merge-mem.Post
+merge-mem-merge-mem-at-requires t c κs = search needs
+
+-- src/lib.rt:98:9
+merge-mem-same-length : (t : ℕ) → merge-mem-lts.Need-same-length (merge-mem-claims t) (merge-mem-at t) merge-mem.Post
+merge-mem-same-length t c = search needs
+
+-- src/lib.rt:98:9
+merge-mem-same-length-2 : (t : ℕ) → merge-mem-lts.Need-same-length-2 (merge-mem-claims t) (merge-mem-at t) merge-mem.Post
+merge-mem-same-length-2 t c = search needs
+
+-- src/lib.rt:98:9
+merge-mem-returns : (t : ℕ) → merge-mem-lts.Need-returns (merge-mem-claims t) (merge-mem-at t) merge-mem.Post
+merge-mem-returns t c = search (merged-left, needs)
+
+-- src/lib.rt:100:5
+merge-mem-exchange-requires : (t : ℕ) → merge-mem-lts.Need-exchange-requires (merge-mem-claims t) (merge-mem-at t) merge-mem.Post
+merge-mem-exchange-requires t c κs = search needs
+
+-- src/lib.rt:101:5
+merge-mem-merge-mem-at-requires-2 : (t : ℕ) → merge-mem-lts.Need-merge-mem-at-requires-2 (merge-mem-claims t) (merge-mem-at t) merge-mem.Post
+merge-mem-merge-mem-at-requires-2 t c κs = (omega (arith, c .before .before .before .before .before .before .before .before .before .before .before .before .before .before .before .before .pre .0), (ready-exchanged _ _ _ _ _ _ (c .before .before .before .before .before .before .before .before .before .before .before .before .before .before .before .before .pre .1 .0) (c .before .before .before .before .exchange .ensures) (c .before .before .before .before .exchange .kept .0), omega (arith, c .before .before .before .before .before .before .before .before .before .before .before .before .before .before .before .before .pre .1 .1)))
+
+-- src/lib.rt:84:1
+merge-mem-same-length-3 : (t : ℕ) → merge-mem-lts.Need-same-length-3 (merge-mem-claims t) (merge-mem-at t) merge-mem.Post
+merge-mem-same-length-3 t c = search needs
+
+-- src/lib.rt:84:1
+merge-mem-same-length-4 : (t : ℕ) → merge-mem-lts.Need-same-length-4 (merge-mem-claims t) (merge-mem-at t) merge-mem.Post
+merge-mem-same-length-4 t c = search needs
+
+-- src/lib.rt:84:1
+merge-mem-returns-2 : (t : ℕ) → merge-mem-lts.Need-returns-2 (merge-mem-claims t) (merge-mem-at t) merge-mem.Post
+merge-mem-returns-2 t c = search (merged-right, needs)
+
+abbrev merge-mem-at-Inv-loop : merge-mem-at-lts.InvT-loop
+merge-mem-at-Inv-loop table places s₀ na d nb rep₀ at total st₀ s rep st = Loop table places s₀ rep₀ st₀ at (na + nb) s rep st
+
+abbrev merge-mem-at-μ-loop : merge-mem-at-lts.MeasureT-loop
+merge-mem-at-μ-loop table places s₀ na d nb rep₀ at total st₀ s rep st = st .rest * 4 + st .todo
+
+-- src/lib.rt:62:17
+merge-mem-at-add-total : (t : ℕ) → merge-mem-at-lts.Need-add-total (merge-mem-at-claims t) (merge-mem-at-at t) merge-mem-at′.Post merge-mem-at-Inv-loop merge-mem-at-μ-loop
+merge-mem-at-add-total t c = search needs
+
+-- src/lib.rt:63:9
+merge-mem-at-begin-requires : (t : ℕ) → merge-mem-at-lts.Need-begin-requires (merge-mem-at-claims t) (merge-mem-at-at t) merge-mem-at′.Post merge-mem-at-Inv-loop merge-mem-at-μ-loop
+merge-mem-at-begin-requires t c κs = search needs
+
+-- src/lib.rt:64:5
+merge-mem-at-loop-holds : (t : ℕ) → merge-mem-at-lts.Need-loop-holds (merge-mem-at-claims t) (merge-mem-at-at t) merge-mem-at′.Post merge-mem-at-Inv-loop merge-mem-at-μ-loop
+merge-mem-at-loop-holds t c = loop-first _ _ _ _ _ _ _ _ _ _ _ (c .before .before .before .before .before .before .before .before .before .before .before .pre .1 .0) (c .before .before .before .before .before .before .before .before .before .before .before .pre .1 .1) (c .before .before .before .before .begin .ensures) (c .before .before .before .before .begin .kept .1 .1 .0)
+
+-- src/lib.rt:65:17
+merge-mem-at-mul-x : (t : ℕ) → merge-mem-at-lts.Need-mul-x (merge-mem-at-claims t) (merge-mem-at-at t) merge-mem-at′.Post merge-mem-at-Inv-loop merge-mem-at-μ-loop
+merge-mem-at-mul-x t c = search needs
+
+-- src/lib.rt:66:18
+merge-mem-at-add-e : (t : ℕ) → merge-mem-at-lts.Need-add-e (merge-mem-at-claims t) (merge-mem-at-at t) merge-mem-at′.Post merge-mem-at-Inv-loop merge-mem-at-μ-loop
+merge-mem-at-add-e t c = search needs
+
+-- src/lib.rt:66:18
+merge-mem-at-add-e-2 : (t : ℕ) → merge-mem-at-lts.Need-add-e-2 (merge-mem-at-claims t) (merge-mem-at-at t) merge-mem-at′.Post merge-mem-at-Inv-loop merge-mem-at-μ-loop
+merge-mem-at-add-e-2 t c = search needs
+
+-- src/lib.rt:66:17
+merge-mem-at-mul-e : (t : ℕ) → merge-mem-at-lts.Need-mul-e (merge-mem-at-claims t) (merge-mem-at-at t) merge-mem-at′.Post merge-mem-at-Inv-loop merge-mem-at-μ-loop
+merge-mem-at-mul-e t c = omega (arith, c .before .before .before .before .before .loop .inv .numbers .fits, c .before .before .before .before .before .loop .inv .numbers .high, c .before .before .before .before .before .loop .inv .small)
+
+-- src/lib.rt:68:46
+merge-mem-at-sub-merge-mem : (t : ℕ) → merge-mem-at-lts.Need-sub-merge-mem (merge-mem-at-claims t) (merge-mem-at-at t) merge-mem-at′.Post merge-mem-at-Inv-loop merge-mem-at-μ-loop
+merge-mem-at-sub-merge-mem t c = search needs
+
+-- src/lib.rt:68:46
+merge-mem-at-part-merge-mem-start : (t : ℕ) → merge-mem-at-lts.Need-part-merge-mem-start (merge-mem-at-claims t) (merge-mem-at-at t) merge-mem-at′.Post merge-mem-at-Inv-loop merge-mem-at-μ-loop
+merge-mem-at-part-merge-mem-start t c = search needs
+
+-- src/lib.rt:68:46
+merge-mem-at-part-merge-mem-end : (t : ℕ) → merge-mem-at-lts.Need-part-merge-mem-end (merge-mem-at-claims t) (merge-mem-at-at t) merge-mem-at′.Post merge-mem-at-Inv-loop merge-mem-at-μ-loop
+merge-mem-at-part-merge-mem-end t c = omega (arith, c .before .before .before .before .before .before .before .loop .inv .numbers .fits, c .before .before .before .before .before .before .before .loop .inv .numbers .high, c .before .before .before .before .before .before .before .loop .inv .len)
+
+-- src/lib.rt:68:17
+merge-mem-at-merge-mem-requires : (t : ℕ) → merge-mem-at-lts.Need-merge-mem-requires (merge-mem-at-claims t) (merge-mem-at-at t) merge-mem-at′.Post merge-mem-at-Inv-loop merge-mem-at-μ-loop
+merge-mem-at-merge-mem-requires t c κs = (omega (arith, c .before .before .before .before .before .before .before .before .before .loop .inv .numbers .less, c .before .before .before .before .before .before .before .before .before .loop .inv .numbers .fits, c .before .before .before .before .before .before .before .before .before .loop .inv .numbers .high, c .before .before .before .before .before .before .before .if1 .taken, c .before .before .before .before .before .before .before .before .before .before .before .before .before .before .before .before .before .before .before .before .before .pre .0), (pair-ready _ _ _ _ _ _ _ _ _ _ _ _ _ (c .before .before .before .before .before .before .before .before .before .loop .inv) (c .before .before .before .before .before .before .before .if1 .taken) refl refl refl, pair-near _ _ _ _ _ _ _ _ _ _ _ _ _ (c .before .before .before .before .before .before .before .before .before .loop .inv) (c .before .before .before .before .before .before .before .if1 .taken) refl refl refl))
+
+-- src/lib.rt:69:13
+merge-mem-at-settle-requires : (t : ℕ) → merge-mem-at-lts.Need-settle-requires (merge-mem-at-claims t) (merge-mem-at-at t) merge-mem-at′.Post merge-mem-at-Inv-loop merge-mem-at-μ-loop
+merge-mem-at-settle-requires t c κs = pair-answered _ _ _ _ _ _ _ _ _ _ _ _ _ (c .before .before .before .before .before .before .before .before .before .before .before .before .before .before .before .before .loop .inv) (c .before .before .before .before .before .before .before .before .before .before .before .before .before .before .if1 .taken) refl refl refl _ _ _ _ _ (is-merging _ _ (c .before .before .before .before .before .before .before .before .before .if2 .taken)) (c .before .before .before .before .before .before .merge-mem .ensures) (c .before .before .before .before .before .before .merge-mem .kept .1 .1 .0) refl (omega (arith, c .before .before .before .before .before .before .before .before .before .before .before .before .before .before .before .struct-known .given))
+
+-- src/lib.rt:64:5
+merge-mem-at-loop-less : (t : ℕ) → merge-mem-at-lts.Need-loop-less (merge-mem-at-claims t) (merge-mem-at-at t) merge-mem-at′.Post merge-mem-at-Inv-loop merge-mem-at-μ-loop
+merge-mem-at-loop-less t c = omega (arith, c .before .before .before .before .settle .ensures .fall, c .before .before .before .before .settle .ensures .numbers .todo, c .before .before .before .before .before .before .before .before .before .before .before .before .before .before .before .before .before .before .before .if1 .taken)
+
+-- src/lib.rt:64:5
+merge-mem-at-loop-again : (t : ℕ) → merge-mem-at-lts.Need-loop-again (merge-mem-at-claims t) (merge-mem-at-at t) merge-mem-at′.Post merge-mem-at-Inv-loop merge-mem-at-μ-loop
+merge-mem-at-loop-again t c = loop-again _ _ _ _ _ _ _ _ _ _ _ _ _ (c .before .before .before .before .before .before .before .before .before .before .before .before .before .before .before .before .before .before .before .before .before .loop .inv) (c .before .before .before .before .before .before .before .before .before .before .before .before .before .before .before .before .before .before .before .if1 .taken) refl refl refl _ _ _ _ _ (is-merging _ _ (c .before .before .before .before .before .before .before .before .before .before .before .before .before .before .if2 .taken)) (c .before .before .before .before .before .before .before .before .before .before .before .merge-mem .ensures) (c .before .before .before .before .before .before .before .before .before .before .before .merge-mem .kept .1 .1 .0) refl (omega (arith, c .before .before .before .before .before .before .before .before .before .before .before .before .before .before .before .before .before .before .before .before .struct-known .given)) _ _ _ (c .before .before .before .before .settle .kept .0) (c .before .before .before .before .before .before .before .before .before .before .before .merge-mem .kept .1 .1 .1 .1 .1 .0) (c .before .before .before .before .settle .kept .1 .1 .1 .0) (c .before .before .before .before .settle .ensures)
+
+-- src/lib.rt:71:49
+merge-mem-at-sub-merge-mem-at : (t : ℕ) → merge-mem-at-lts.Need-sub-merge-mem-at (merge-mem-at-claims t) (merge-mem-at-at t) merge-mem-at′.Post merge-mem-at-Inv-loop merge-mem-at-μ-loop
+merge-mem-at-sub-merge-mem-at t c = search needs
+
+-- src/lib.rt:71:49
+merge-mem-at-part-merge-mem-at-start : (t : ℕ) → merge-mem-at-lts.Need-part-merge-mem-at-start (merge-mem-at-claims t) (merge-mem-at-at t) merge-mem-at′.Post merge-mem-at-Inv-loop merge-mem-at-μ-loop
+merge-mem-at-part-merge-mem-at-start t c = search needs
+
+-- src/lib.rt:71:49
+merge-mem-at-part-merge-mem-at-end : (t : ℕ) → merge-mem-at-lts.Need-part-merge-mem-at-end (merge-mem-at-claims t) (merge-mem-at-at t) merge-mem-at′.Post merge-mem-at-Inv-loop merge-mem-at-μ-loop
+merge-mem-at-part-merge-mem-at-end t c = omega (arith, c .before .before .before .before .before .before .before .loop .inv .numbers .fits, c .before .before .before .before .before .before .before .loop .inv .numbers .high, c .before .before .before .before .before .before .before .loop .inv .len)
+
+-- src/lib.rt:71:17
+merge-mem-at-merge-mem-at-requires : (t : ℕ) → merge-mem-at-lts.Need-merge-mem-at-requires (merge-mem-at-claims t) (merge-mem-at-at t) merge-mem-at′.Post merge-mem-at-Inv-loop merge-mem-at-μ-loop
+merge-mem-at-merge-mem-at-requires t c κs = (omega (arith, c .before .before .before .before .before .before .before .before .before .loop .inv .numbers .less, c .before .before .before .before .before .before .before .before .before .loop .inv .numbers .fits, c .before .before .before .before .before .before .before .before .before .loop .inv .numbers .high, c .before .before .before .before .before .before .before .if1 .taken, c .before .before .before .before .before .before .before .before .before .before .before .before .before .before .before .before .before .before .before .before .before .pre .0), (pair-ready _ _ _ _ _ _ _ _ _ _ _ _ _ (c .before .before .before .before .before .before .before .before .before .loop .inv) (c .before .before .before .before .before .before .before .if1 .taken) refl refl refl, pair-near _ _ _ _ _ _ _ _ _ _ _ _ _ (c .before .before .before .before .before .before .before .before .before .loop .inv) (c .before .before .before .before .before .before .before .if1 .taken) refl refl refl))
+
+-- src/lib.rt:72:13
+merge-mem-at-settle-requires-2 : (t : ℕ) → merge-mem-at-lts.Need-settle-requires-2 (merge-mem-at-claims t) (merge-mem-at-at t) merge-mem-at′.Post merge-mem-at-Inv-loop merge-mem-at-μ-loop
+merge-mem-at-settle-requires-2 t c κs = pair-answered _ _ _ _ _ _ _ _ _ _ _ _ _ (c .before .before .before .before .before .before .before .before .before .before .before .before .before .before .before .before .loop .inv) (c .before .before .before .before .before .before .before .before .before .before .before .before .before .before .if1 .taken) refl refl refl _ _ _ _ _ (is-placing _ _ (c .before .before .before .before .before .before .before .before .before .before .before .before .before .before .before .before .loop .inv .numbers .todo) (c .before .before .before .before .before .before .before .before .before .if2 .left)) (c .before .before .before .before .before .before .merge-mem-at .ensures) (c .before .before .before .before .before .before .merge-mem-at .kept .1 .1 .0) refl (omega (arith, c .before .before .before .before .before .before .before .before .before .before .before .before .before .before .before .struct-known .given))
+
+-- src/lib.rt:64:5
+merge-mem-at-loop-less-2 : (t : ℕ) → merge-mem-at-lts.Need-loop-less-2 (merge-mem-at-claims t) (merge-mem-at-at t) merge-mem-at′.Post merge-mem-at-Inv-loop merge-mem-at-μ-loop
+merge-mem-at-loop-less-2 t c = omega (arith, c .before .before .before .before .settle2 .ensures .fall, c .before .before .before .before .settle2 .ensures .numbers .todo, c .before .before .before .before .before .before .before .before .before .before .before .before .before .before .before .before .before .before .before .if1 .taken)
+
+-- src/lib.rt:64:5
+merge-mem-at-loop-again-2 : (t : ℕ) → merge-mem-at-lts.Need-loop-again-2 (merge-mem-at-claims t) (merge-mem-at-at t) merge-mem-at′.Post merge-mem-at-Inv-loop merge-mem-at-μ-loop
+merge-mem-at-loop-again-2 t c = loop-again _ _ _ _ _ _ _ _ _ _ _ _ _ (c .before .before .before .before .before .before .before .before .before .before .before .before .before .before .before .before .before .before .before .before .before .loop .inv) (c .before .before .before .before .before .before .before .before .before .before .before .before .before .before .before .before .before .before .before .if1 .taken) refl refl refl _ _ _ _ _ (is-placing _ _ (c .before .before .before .before .before .before .before .before .before .before .before .before .before .before .before .before .before .before .before .before .before .loop .inv .numbers .todo) (c .before .before .before .before .before .before .before .before .before .before .before .before .before .before .if2 .left)) (c .before .before .before .before .before .before .before .before .before .before .before .merge-mem-at .ensures) (c .before .before .before .before .before .before .before .before .before .before .before .merge-mem-at .kept .1 .1 .0) refl (omega (arith, c .before .before .before .before .before .before .before .before .before .before .before .before .before .before .before .before .before .before .before .before .struct-known .given)) _ _ _ (c .before .before .before .before .settle2 .kept .0) (c .before .before .before .before .before .before .before .before .before .before .before .merge-mem-at .kept .1 .1 .1 .1 .1 .1 .0) (c .before .before .before .before .settle2 .kept .1 .1 .1 .0) (c .before .before .before .before .settle2 .ensures)
+
+-- src/lib.rt:48:1
+merge-mem-at-same-length : (t : ℕ) → merge-mem-at-lts.Need-same-length (merge-mem-at-claims t) (merge-mem-at-at t) merge-mem-at′.Post merge-mem-at-Inv-loop merge-mem-at-μ-loop
+merge-mem-at-same-length t c = search needs
+
+-- src/lib.rt:48:1
+merge-mem-at-same-length-2 : (t : ℕ) → merge-mem-at-lts.Need-same-length-2 (merge-mem-at-claims t) (merge-mem-at-at t) merge-mem-at′.Post merge-mem-at-Inv-loop merge-mem-at-μ-loop
+merge-mem-at-same-length-2 t c = search needs
+
+-- src/lib.rt:48:1
+merge-mem-at-returns : (t : ℕ) → merge-mem-at-lts.Need-returns (merge-mem-at-claims t) (merge-mem-at-at t) merge-mem-at′.Post merge-mem-at-Inv-loop merge-mem-at-μ-loop
+merge-mem-at-returns t c = loop-last _ _ _ _ _ _ _ _ _ _ _ (c .before .before .before .before .before .before .before .before .before .before .before .before .before .before .pre .1 .0) (c .before .before .before .before .before .before .before .before .before .before .before .before .before .before .pre .1 .1) (c .before .before .before .before .before .before .before .begin .ensures) _ _ _ (c .before .before .loop .inv) (c .if1 .left)
+
+pub +merge-mem+merge-mem-at-spec : {M : Type 1} → statement M
++merge-mem+merge-mem-at-spec = close μ-merge-mem μ-merge-mem-at (λ t. merge-mem-lts.spec (merge-mem-claims t)
+    (merge-mem-at t)
+    merge-mem.Post
+    (merge-mem-top-requires t)
+    (merge-mem-top-requires-2 t)
+    (merge-mem-first-receives-requires t)
+    (merge-mem-merge-mem-at-requires t)
+    (merge-mem-same-length t)
+    (merge-mem-same-length-2 t)
+    (merge-mem-returns t)
+    (merge-mem-exchange-requires t)
+    (merge-mem-merge-mem-at-requires-2 t)
+    (merge-mem-same-length-3 t)
+    (merge-mem-same-length-4 t)
+    (merge-mem-returns-2 t))
+    λ t. merge-mem-at-lts.spec (merge-mem-at-claims t)
+    (merge-mem-at-at t)
+    merge-mem-at′.Post
+    merge-mem-at-Inv-loop
+    merge-mem-at-μ-loop
+    (merge-mem-at-add-total t)
+    (merge-mem-at-begin-requires t)
+    (merge-mem-at-loop-holds t)
+    (merge-mem-at-mul-x t)
+    (merge-mem-at-add-e t)
+    (merge-mem-at-add-e-2 t)
+    (merge-mem-at-mul-e t)
+    (merge-mem-at-sub-merge-mem t)
+    (merge-mem-at-part-merge-mem-start t)
+    (merge-mem-at-part-merge-mem-end t)
+    (merge-mem-at-merge-mem-requires t)
+    (merge-mem-at-settle-requires t)
+    (merge-mem-at-loop-less t)
+    (merge-mem-at-loop-again t)
+    (merge-mem-at-sub-merge-mem-at t)
+    (merge-mem-at-part-merge-mem-at-start t)
+    (merge-mem-at-part-merge-mem-at-end t)
+    (merge-mem-at-merge-mem-at-requires t)
+    (merge-mem-at-settle-requires-2 t)
+    (merge-mem-at-loop-less-2 t)
+    (merge-mem-at-loop-again-2 t)
+    (merge-mem-at-same-length t)
+    (merge-mem-at-same-length-2 t)
+    (merge-mem-at-returns t)

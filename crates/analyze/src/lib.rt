@@ -1,0 +1,83 @@
+// `merge_mem` and `merge_mem_at`, on records in place.
+ghost use mathlib.Core.Path.{_≡_};
+ghost use Prim.Native.Nat.{_+_, _*_, _≤_};
+ghost use lib.ListN.{length};
+ghost use Rattle.states.specs.Calls.{Ready, Near, placing, merging, Placed};
+ghost use Rattle.analyze.specs.Tops.{Top};
+use qptr::Node;
+use qptr::first_receives;
+use records::command;
+use records::exchange;
+use records::max_size;
+use rules::begin;
+use rules::settle;
+use states::Outcome;
+
+// The root at record q, without its argument.
+fn top(s: &[u8], q: usize) -> Node
+    requires { ⌜ q * 32 + 32 ≤ length (now s) ⌝ }
+    ensures { λ r. ⌜ Top (now (s .entry)) q r ⌝ }
+{
+    Node {
+        command: (command(s, q) % 256) as u8,
+        size: max_size(s, q),
+        argument: 0,
+    }
+}
+
+// b, the nb records behind a's na, is placed in a at d. The result stands from record 0 on.
+pub fn merge_mem_at(
+    table: &[u8],
+    places: &[u32],
+    s: &mut [u8],
+    na: usize,
+    d: u32,
+    nb: usize,
+    rep: &mut [u8],
+    at: usize,
+) -> Outcome
+    requires { ⌜ Ready (now table) (now places) (now s) na nb ⌝ }
+    requires { ⌜ Near at (na + nb) ⌝ }
+    ensures { λ r. ⌜ Placed (placing d) (now (table .entry)) (now (places .entry)) (now (s .entry)) na nb (now (s .exit)) (r .refusal) (r .nodes) (r .pairings) (now (rep .entry)) at (now (rep .exit)) (r .at) ⌝ }
+{
+    let total = na + nb;
+    let mut st = begin(table, places, s, na, d, nb, rep, at);
+    while st.todo != 0 {
+        let x = st.x * 32;
+        let e = (st.x + st.n + st.m) * 32;
+        if st.todo == 2 {
+            let r = merge_mem(table, places, &mut s[x..e], st.n, st.m, rep, st.at);
+            st = settle(s, st, r, rep, total);
+        } else {
+            let r = merge_mem_at(table, places, &mut s[x..e], st.n, st.d, st.m, rep, st.at);
+            st = settle(s, st, r, rep, total);
+        }
+    }
+    Outcome {
+        refusal: st.refusal,
+        nodes: st.n,
+        pairings: st.pairings,
+        at: st.at,
+    }
+}
+
+// The larger receives the other at 0; at equal sizes the stricter, and on a full tie the second.
+pub fn merge_mem(
+    table: &[u8],
+    places: &[u32],
+    s: &mut [u8],
+    na: usize,
+    nb: usize,
+    rep: &mut [u8],
+    at: usize,
+) -> Outcome
+    requires { ⌜ Ready (now table) (now places) (now s) na nb ⌝ }
+    requires { ⌜ Near at (na + nb) ⌝ }
+    ensures { λ r. ⌜ Placed merging (now (table .entry)) (now (places .entry)) (now (s .entry)) na nb (now (s .exit)) (r .refusal) (r .nodes) (r .pairings) (now (rep .entry)) at (now (rep .exit)) (r .at) ⌝ }
+{
+    if first_receives(top(s, 0), top(s, na)) {
+        return merge_mem_at(table, places, s, na, 0, nb, rep, at);
+    }
+    exchange(s, na, nb);
+    merge_mem_at(table, places, s, nb, 0, na, rep, at)
+}
