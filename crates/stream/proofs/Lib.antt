@@ -8,6 +8,7 @@ pub mod Each
 pub mod Owing
 pub mod Stepping
 pub mod Going
+pub mod Outlining
 pub mod Skipping
 pub mod Climbing
 pub mod Counting

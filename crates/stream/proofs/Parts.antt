@@ -20,7 +20,7 @@ unfolding head
 few [] h = refl
 few (c ∷ bs) h = rw (size-short bs (omega arith))
 
-head-at : (s : List ℕ) (at : ℕ) → at < length s
+pub head-at : (s : List ℕ) (at : ℕ) → at < length s
     → head (drop at s) ≡ readSize (drop (at + 1) s) then λ z bs. number (argumentWidth (getD s at 0)) bs then λ n rest. own (getD s at 0) z n rest
 unfolding head
 head-at s at h = rw (byte-at s at h)

@@ -60,3 +60,14 @@ pub record PartAt (s : List ℕ) (at : ℕ) (node : Node) (end : ℕ) : Type 0 w
 abbrev pub Shows : List ℕ → ℕ → HeaderAt → Type 0
 Shows s at (headers.Header node end) = PartAt s at node end
 Shows s at headers.Broken = head (drop at s) ≡ broken
+
+-- the own part at a place of s, but for its size, if there is one: whether there is, is not said
+pub record OutlineAt (s : List ℕ) (at : ℕ) (node : Node) (end : ℕ) : Type 0 where
+  pub same : (h : Head) (rest : List ℕ) → head (drop at s) ≡ read h rest → (h .command ≡ node .command) × (h .argument ≡ node .argument) × (rest ≡ drop end s)
+  pub taken : at + 6 ≤ end
+  pub within : end ≤ length s
+
+-- the same, or that there is none
+abbrev pub Outlines : List ℕ → ℕ → HeaderAt → Type 0
+Outlines s at (headers.Header node end) = OutlineAt s at node end
+Outlines s at headers.Broken = head (drop at s) ≡ broken

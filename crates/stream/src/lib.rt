@@ -2,17 +2,19 @@
 // for each level.
 ghost use mathlib.Core.Path.{_≡_};
 ghost use Prim.Native.Nat.{ℕ, _+_, _≤_, max};
-ghost use lib.ListN.{length, drop};
+ghost use lib.ListN.{length, getD, drop};
 ghost use Rattle.definitions.specs.Limits.{max32};
 ghost use Rattle.definitions.specs.Usage.{nodes, nodesOf, topNodes, allNodes};
 ghost use Rattle.definitions.specs.Stream.{read, number, readNode, readNodes, whole, topOf, memoryOf, listOf};
-ghost use Rattle.stream.specs.Head.{Wide, Known, partOf, SizeShows, Shows};
+ghost use Rattle.stream.specs.Head.{Wide, Known, partOf, SizeShows, Shows, Outlines};
 ghost use Rattle.stream.specs.Found.{typeBound, boundOf, topBound, allBound, opaqueOf, told, Spans};
 ghost use Rattle.stream.specs.Walk.{entriesOf, ownBound, Goes, Skips, Ascends, Orders};
 use qptr::Command;
 use qptr::MaxSize;
 use qptr::Node;
 use records::get32;
+
+const UNUSED: u8 = 0x00;
 
 const STRICTLY_TYPED: u8 = 0x01;
 
@@ -196,7 +198,49 @@ fn past(s: &[u8], node: Node, end: usize, owed: usize) -> Next
     }
 }
 
-// Where the node at `from` ends. The order of offsets is not looked at.
+// The own part with this command at `at`, if there is one: its size and its stride are not looked at, so the size told is none.
+fn outlined(s: &[u8], at: usize, command: u8) -> HeaderAt
+    requires { ⌜ (at + 6 ≤ length (now s)) × (getD (now s) at 0 ≡ command) ⌝ }
+    ensures { λ r. ⌜ Outlines (now (s .entry)) at r ⌝ }
+{
+    let width = Command::of(command).argument;
+    if s.len() - at - 6 < width as usize {
+        return HeaderAt::Broken;
+    }
+    let argument = operand(s, at + 6, width);
+    let node = Node {
+        command,
+        size: MaxSize::Dynamic,
+        argument,
+    };
+    HeaderAt::Header {
+        node,
+        end: at + 6 + width as usize,
+    }
+}
+
+// The own part at `at`, if there is one. It may be lean, because `skip` answers only for what is a node: whether it is one, `node`
+// looks at when it comes there. And it should be, because `skip` may pass a node many times. Each command has an arm of its own,
+// where its width is a constant, so that the processor foresees the next place and does not wait for this command and the table.
+fn outline(s: &[u8], at: usize) -> HeaderAt
+    requires { ⌜ at ≤ length (now s) ⌝ }
+    ensures { λ r. ⌜ Outlines (now (s .entry)) at r ⌝ }
+{
+    if s.len() - at < 6 {
+        return HeaderAt::Broken;
+    }
+    let command = s[at];
+    match command {
+        UNUSED => outlined(s, at, UNUSED),
+        STRICTLY_TYPED => outlined(s, at, STRICTLY_TYPED),
+        DIRECT_ACCESS => outlined(s, at, DIRECT_ACCESS),
+        MAP => outlined(s, at, MAP),
+        ARRAY => outlined(s, at, ARRAY),
+        _ => HeaderAt::Broken,
+    }
+}
+
+// Where the node at `from` ends, if it is one. The order of offsets is not looked at, nor are sizes and strides.
 fn skip(s: &[u8], from: usize) -> Skipped
     requires { ⌜ from ≤ length (now s) ⌝ }
     ensures { λ r. ⌜ Skips (now (s .entry)) from r ⌝ }
@@ -204,7 +248,7 @@ fn skip(s: &[u8], from: usize) -> Skipped
     let mut at = from;
     let mut owed: usize = 0;
     loop {
-        let HeaderAt::Header { node, end } = header(s, at) else {
+        let HeaderAt::Header { node, end } = outline(s, at) else {
             return Skipped::Broken;
         };
         match past(s, node, end, owed) {

@@ -4,7 +4,7 @@ use Prim.Native.Nat.{_-_}
 use native.Mathlib.Omega.{arith}
 use borrow.Author.Needs.{needs}
 use lib.ListN.{length}
-use Rattle.stream.specs.Head.{PartAt}
+use Rattle.stream.specs.Head.{OutlineAt}
 use Rattle.stream.proofs.Skipping.{Skipping, Skips-on, skip-start, skip-stop, skip-turn}
 use Rattle.stream.proofs.skip.Statement.{statement}
 use Rattle.stream.proofs.skip.Tie as tie
@@ -18,8 +18,8 @@ abbrev μ-loop : tie.MeasureT-loop
 loop-holds : tie.Need-loop-holds Inv-loop μ-loop
 loop-holds c = search (skip-start, needs)
 
-header-requires : tie.Need-header-requires Inv-loop μ-loop
-header-requires c κs = search needs
+outline-requires : tie.Need-outline-requires Inv-loop μ-loop
+outline-requires c κs = search needs
 
 enum-known-node : tie.Need-enum-known-node Inv-loop μ-loop
 enum-known-node c = search needs
@@ -30,12 +30,12 @@ enum-told c = search needs
 returns : tie.Need-returns Inv-loop μ-loop
 returns c =
     let a = c .before .before .before .before .before .args in
-    skip-stop (a .s .now) (a .from) (c .before .before .before .loop .inv) (rw (c .enum-told .given .1) at (c .before .before .header .ensures))
+    skip-stop (a .s .now) (a .from) (c .before .before .before .loop .inv) (rw (c .enum-told .given .1) at (c .before .before .outline .ensures))
 
 part : (c : tie.After-known-told Inv-loop μ-loop)
     → (let head = c .before .node .given .0 in
-    PartAt (c .before .before .before .before .before .before .args .s .now) (c .before .before .before .before .loop .at) (head .0) (head .1 .0))
-part c = rw (c .before .node .given .1) at (c .before .before .before .header .ensures)
+    OutlineAt (c .before .before .before .before .before .before .args .s .now) (c .before .before .before .before .loop .at) (head .0) (head .1 .0))
+part c = rw (c .before .node .given .1) at (c .before .before .before .outline .ensures)
 
 past-requires : tie.Need-past-requires Inv-loop μ-loop
 past-requires c κs = let here = part c in (omega arith, omega arith)
@@ -78,7 +78,7 @@ skip-spec =
     Inv-loop
     μ-loop
     loop-holds
-    header-requires
+    outline-requires
     enum-known-node
     enum-told
     returns
