@@ -4,4 +4,6 @@ pub mod Roots
 pub mod Receivers
 pub mod Tables
 pub mod Refusals
+pub mod Loads
 pub mod Sounding
+pub mod Supporting

@@ -24,7 +24,7 @@ module _ {A : Type 0} (next : Setting → Result A) where
   unfolding if_then_else_
   bad-table work table h e = rw (le-ltb work workLimit h, e)
 
-  pub good-table : {table : List ℕ} {work k : ℕ} (t : Begun table work k) → withTable work table next ≡ next (record { table = t .table })
+  pub good-table : {table places : List ℕ} {work k : ℕ} (t : Begun table work places k) → withTable work table next ≡ next (record { table = t .table })
   unfolding if_then_else_
   good-table {work} t = rw (le-ltb work workLimit (t .enough), t .is)
 

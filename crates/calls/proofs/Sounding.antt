@@ -17,10 +17,11 @@ use Rattle.definitions.specs.Place.{done}
 use Rattle.definitions.specs.Sound.{sound}
 use Rattle.definitions.specs.Calls.{checked, refusal, said, soundCall}
 use Rattle.records.specs.Usages.{At}
-use Rattle.transfer.specs.Loading.{Loadable, Loaded}
+use Rattle.transfer.specs.Loading.{Loaded}
 use Rattle.soundness.specs.Standing.{Standing, Tested}
 use Rattle.calls.proofs.Types.{types-in}
 use Rattle.calls.proofs.Memories.{Memory}
+use Rattle.calls.proofs.Loads.{usage-at}
 use Rattle.calls.proofs.Tables.{Begun}
 use Rattle.calls.proofs.Refusals.{short-work, bad-table, good-table, unknown-type, many-nodes, few-nodes}
 
@@ -35,7 +36,7 @@ module _ (table : List ℕ) (work : ℕ) (s : List ℕ) where
   unfolding soundCall
   sound-tableless enough e = rw (bad-table _ work table enough e)
 
-module _ {table : List ℕ} {work k : ℕ} (t : Begun table work k) where
+module _ {table places : List ℕ} {work k : ℕ} (t : Begun table work places k) where
   pub sound-broken : (s : List ℕ) → memoryOf s ≡ nothing → soundCall table work s ≡ refusal 3
   unfolding soundCall
   sound-broken s e = rw (good-table _ t, e)
@@ -56,15 +57,10 @@ module _ {table : List ℕ} {work k : ℕ} (t : Begun table work k) where
 
 -- The usage in the work area
 
-module _ {s : List ℕ} {n b : ℕ} (m : Memory s n b) {work : List ℕ} where
-  pub loadable : n ≤ nodeLimit → workLimit ≤ length work → Loadable s 1 n work 0
-  loadable few enough =
-      record { usage = m .usage; rest = []; reads = m .reads; many = search; inside = omega arith; small = omega arith }
+module _ {s : List ℕ} {n b : ℕ} (m : Memory s n b) {work work′ : List ℕ} {end : ℕ} (loaded : Loaded At s 1 work 0 work′ end) where
+  pub standing : n ≤ nodeLimit → workLimit ≤ length work′ → Standing work′ 0
+  standing few enough =
+      record { usage = m .usage; offset = 0; stands = usage-at m loaded; inside = omega (arith, m .counted); few = omega (arith, m .counted) }
 
-  module _ {work′ : List ℕ} {end : ℕ} (loaded : Loaded At s 1 work 0 work′ end) where
-    pub standing : n ≤ nodeLimit → workLimit ≤ length work′ → Standing work′ 0
-    standing few enough =
-        record { usage = m .usage; offset = 0; stands = loaded .stands (m .usage) [] (m .reads); inside = omega (arith, m .counted); few = omega (arith, m .counted) }
-
-    pub tested : {r : Bool} → Tested work′ 0 r → r ≡ sound (m .usage)
-    tested t = t .of (m .usage) 0 (loaded .stands (m .usage) [] (m .reads))
+  pub tested : {r : Bool} → Tested work′ 0 r → r ≡ sound (m .usage)
+  tested t = t .of (m .usage) 0 (usage-at m loaded)

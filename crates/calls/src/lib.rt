@@ -3,7 +3,7 @@ ghost use mathlib.Core.Path.{_≡_};
 ghost use mathlib.Core.List.{[]};
 ghost use lib.ListN.{length};
 ghost use Rattle.definitions.specs.Place.{done};
-ghost use Rattle.definitions.specs.Calls.{refusal, said, receiverOf, receiverCall, soundCall};
+ghost use Rattle.definitions.specs.Calls.{refusal, said, receiverOf, receiverCall, soundCall, supportsCall};
 ghost use Rattle.calls.specs.Answers.{answerOf, receivedOf};
 ghost use Rattle.calls.specs.Roots.{Rooted};
 use qptr::Node;
@@ -23,6 +23,19 @@ pub struct Answer {
 pub const WORK: usize = 49152;
 
 pub const NODES: usize = 512;
+
+// The refusals, in their order.
+const SHORT_WORK: u32 = 1;
+
+const BAD_TABLE: u32 = 2;
+
+const BAD_FIRST: u32 = 3;
+
+const UNKNOWN_TYPE: u32 = 5;
+
+const NOT_CONCRETE: u32 = 6;
+
+const MANY_NODES: u32 = 7;
 
 // Which of two streams receives.
 pub enum Received {
@@ -112,22 +125,53 @@ pub fn sound(table: &[u8], work: &mut [u8], s: &[u8]) -> Answer
     ensures { λ r. ⌜ answerOf r ≡ soundCall (now (table .entry)) (length (now (work .entry))) (now (s .entry)) ⌝ }
 {
     if work.len() < WORK {
-        return refusal(1);
+        return refusal(SHORT_WORK);
     }
     let mut places = [0u32; 1024];
     let records = layout::accept(table, &mut places);
     if !records.ok {
-        return refusal(2);
+        return refusal(BAD_TABLE);
     }
     let Found::Stream { nodes, types } = stream::memory(s) else {
-        return refusal(3);
+        return refusal(BAD_FIRST);
     };
     if (records.count as u64) < types {
-        return refusal(5);
+        return refusal(UNKNOWN_TYPE);
     }
     if NODES < nodes {
-        return refusal(7);
+        return refusal(MANY_NODES);
     }
     transfer::load(s, 1, nodes, work, 0);
     said(soundness::sound(work, 0))
+}
+
+// Does a type, at an offset, support the usage of a Memory stream? It is loaded as for `sound`.
+pub fn supports(table: &[u8], work: &mut [u8], ty: u32, offset: u32, s: &[u8]) -> Answer
+    ensures { λ r. ⌜ answerOf r ≡ supportsCall (now (table .entry)) (length (now (work .entry))) ty offset (now (s .entry)) ⌝ }
+{
+    if work.len() < WORK {
+        return refusal(SHORT_WORK);
+    }
+    let mut places = [0u32; 1024];
+    let records = layout::accept(table, &mut places);
+    if !records.ok {
+        return refusal(BAD_TABLE);
+    }
+    let Found::Stream { nodes, types } = stream::memory(s) else {
+        return refusal(BAD_FIRST);
+    };
+    if records.count <= ty as usize {
+        return refusal(UNKNOWN_TYPE);
+    }
+    if (records.count as u64) < types {
+        return refusal(UNKNOWN_TYPE);
+    }
+    if !layout::is_concrete(table, &places, ty) {
+        return refusal(NOT_CONCRETE);
+    }
+    if NODES < nodes {
+        return refusal(MANY_NODES);
+    }
+    transfer::load(s, 1, nodes, work, 0);
+    said(support::supports_usage_at_offset(table, &places, ty, offset, work, 0))
 }

@@ -1,7 +1,7 @@
 // The calls for C and Rust. A slice is passed as a pointer and a length.
 ghost use mathlib.Core.Path.{_≡_};
 ghost use lib.ListN.{length};
-ghost use Rattle.definitions.specs.Calls.{receiverOf, soundCall};
+ghost use Rattle.definitions.specs.Calls.{receiverOf, soundCall, supportsCall};
 ghost use Rattle.calls.specs.Answers.{answerOf, receivedOf};
 ghost use Rattle.exports.specs.Numbers.{numberOf, bit, numbersOf};
 use calls::Answer;
@@ -49,4 +49,19 @@ pub extern "C" fn qptr_sound(table: &[u8], work: &mut [u8], stream: &[u8], answe
     ensures { λ r. ⌜ now (answer .exit) ≡ numbersOf (soundCall (now (table .entry)) (length (now (work .entry))) (now (stream .entry))) ⌝ }
 {
     *answer = numbers(calls::sound(table, work, stream));
+}
+
+// The answer as of `qptr_sound`.
+#[no_mangle]
+pub extern "C" fn qptr_supports(
+    table: &[u8],
+    work: &mut [u8],
+    ty: u32,
+    offset: u32,
+    stream: &[u8],
+    answer: &mut [u64; 5],
+)
+    ensures { λ r. ⌜ now (answer .exit) ≡ numbersOf (supportsCall (now (table .entry)) (length (now (work .entry))) ty offset (now (stream .entry))) ⌝ }
+{
+    *answer = numbers(calls::supports(table, work, ty, offset, stream));
 }

@@ -13,8 +13,10 @@ const WORK: u32 = 49160;
 
 const BUFFER: u32 = 16384;
 
-// The calls by number; supports, place, merge and fold are 1 to 4.
+// The calls by number; place, merge and fold are 2 to 4.
 const RECEIVER: u8 = 0;
+
+const SUPPORTS: u8 = 1;
 
 const FOLD: u8 = 4;
 
@@ -23,6 +25,10 @@ const SOUND: u8 = 5;
 // A record begins with the call, a byte, the length of the work area, the type and the offset that are asked. Then come its three
 // parts, each with its length in front.
 const WORK_AT: usize = 1;
+
+const TYPE_AT: usize = 5;
+
+const OFFSET_AT: usize = 9;
 
 const PARTS_AT: usize = 13;
 
@@ -193,6 +199,20 @@ fn work_area() -> [u8; 49160]
     [0u8; 49160]
 }
 
+fn supports(s: &[u8], p: Parts) -> bool
+    requires { ⌜ Whole (now s) p ⌝ }
+{
+    let mut work = work_area();
+    let n = get32(s, WORK_AT) as usize;
+    let ty = get32(s, TYPE_AT);
+    let offset = get32(s, OFFSET_AT);
+    let t = p.table;
+    let a = p.table + 4;
+    let b = p.first;
+    let got = calls::supports(&s[TABLE_AT..t], &mut work[..n], ty, offset, &s[a..b]);
+    answered(s, p.second + ANSWER_AT, got)
+}
+
 fn sound(s: &[u8], p: Parts) -> bool
     requires { ⌜ Whole (now s) p ⌝ }
 {
@@ -223,8 +243,9 @@ pub fn run(s: &[u8]) -> Ran
     };
     match s[0] {
         RECEIVER => compared(receiver(s, p)),
+        SUPPORTS => compared(supports(s, p)),
         SOUND => compared(sound(s, p)),
-        1..=FOLD => Ran::Record(Counts {
+        2..=FOLD => Ran::Record(Counts {
             compared: 0,
             different: 0,
         }),

@@ -6,7 +6,8 @@ use borrow.Author.Tests.{not-true, not-false}
 use lib.ListN.{length}
 use Rattle.calls.proofs.Memories.{Memory, found, lost}
 use Rattle.calls.proofs.Tables.{Begun, begin}
-use Rattle.calls.proofs.Sounding.{sound-short, sound-tableless, sound-broken, sound-unknown, sound-many, sound-said, loadable, standing, tested}
+use Rattle.calls.proofs.Loads.{loadable}
+use Rattle.calls.proofs.Sounding.{sound-short, sound-tableless, sound-broken, sound-unknown, sound-many, sound-said, standing, tested}
 use Rattle.calls.proofs.sound.Statement.{statement}
 use Rattle.calls.proofs.sound.Tie as tie
 
@@ -34,7 +35,7 @@ returns-2 c =
     rw (sound-tableless (a .table .now) (length (a .work .now)) (a .s .now) (c .before .before .before .before .before .before .if1 .left) (accept .ensures .refused (not-true (accept .result .ok) (c .before .if2 .taken))))
     (c .refusal2 .ensures)
 
-begun : (c : tie.Else2) → (let a = c .before .before .before .before .before .before .before .before .before .args in Begun (a .table .now) (length (a .work .now)) (c .before .before .before .accept .result .count))
+begun : (c : tie.Else2) → (let a = c .before .before .before .before .before .before .before .before .before .args in Begun (a .table .now) (length (a .work .now)) (c .before .before .before .accept .last .1 .0) (c .before .before .before .accept .result .count))
 begun c = let accept = c .before .before .before .accept in begin (c .before .before .before .before .before .if1 .left) (accept .ensures) (not-false (accept .result .ok) (c .if2 .left))
 
 memory-requires : tie.Need-memory-requires

@@ -30,11 +30,17 @@ receiver-requires c κs = whole (c .before .before)
 compared-requires : tie.Need-compared-requires
 compared-requires c κs = search needs
 
-sound-requires : tie.Need-sound-requires
-sound-requires c κs = whole (c .before .before)
+supports-requires : tie.Need-supports-requires
+supports-requires c κs = whole (c .before .before)
 
 compared-requires-2 : tie.Need-compared-requires-2
 compared-requires-2 c κs = search needs
+
+sound-requires : tie.Need-sound-requires
+sound-requires c κs = whole (c .before .before)
+
+compared-requires-3 : tie.Need-compared-requires-3
+compared-requires-3 c κs = search needs
 
 returns-2 : tie.Need-returns-2
 returns-2 c = search needs
@@ -48,6 +54,9 @@ returns-4 c = search needs
 returns-5 : tie.Need-returns-5
 returns-5 c = search needs
 
+returns-6 : tie.Need-returns-6
+returns-6 c = search needs
+
 pub run-spec : {M : Type 1} → statement M
 run-spec =
     tie.close
@@ -59,9 +68,12 @@ run-spec =
     shared-slice-read-match2
     receiver-requires
     compared-requires
-    sound-requires
+    supports-requires
     compared-requires-2
+    sound-requires
+    compared-requires-3
     returns-2
     returns-3
     returns-4
-    returns-5)
+    returns-5
+    returns-6)
