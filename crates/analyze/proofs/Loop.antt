@@ -1,7 +1,7 @@
 -- The loop of a placing: whatever goal its first state stood for, each later one stands for too, since a turn places or merges the pending pair.
 -- Assumes nothing.
-use Prim.Native.Nat.{ℕ, zero, suc, _+_, _-_, _*_, _%_, _^_, _<_, _≤_}
-use mathlib.Core.Path.{_≡_, refl, sym, _∙_, subst}
+use Prim.Native.Nat.{ℕ, zero, suc, _+_, _-_, _*_, _≤_}
+use mathlib.Core.Path.{_≡_, refl, sym, _∙_}
 use mathlib.Core.List.{List, [], _∷_, _++_}
 use native.Mathlib.Decide.{decLt}
 use native.Mathlib.Omega.{arith}
@@ -11,7 +11,7 @@ use Rattle.definitions.specs.Usage.{Usage, nodes}
 use Rattle.definitions.specs.Table.{Setting}
 use Rattle.definitions.specs.Place.{Result, refused, done, place}
 use Rattle.definitions.proofs.Nodes.{some-node}
-use Rattle.states.specs.Calls.{Known, Two, Ready, Near, Done, placing, merging, Placed}
+use Rattle.states.specs.Calls.{Known, Ready, Near, placing, merging, Placed}
 use Rattle.states.specs.States.{Beyond, entries, element, joins, act, heading, entryHead, Numbers, Short, Pending, Next, Began, Waiting, Answered, Gave, Took, Settled, Outside}
 use Rattle.states.specs.declared.State.{State}
 use Rattle.states.specs.declared.Outcome.{Outcome}
@@ -36,7 +36,7 @@ pub record Loop (table places s₀ rep₀ : List ℕ) (st₀ : State) (at total 
   pub next : (setting : Setting) → Known table places setting → (goal : Result Usage) (repₑ : List ℕ) → Short at goal
       → Next setting goal repₑ at s₀ rep₀ st₀ total → Next setting goal repₑ at s rep st total
 
-module _ (table places sₑ s₀ repₑ rep₀ : List ℕ) (na d nb at : ℕ) (st₀ : State) (R : Ready table places sₑ na nb) (near : Near at (na + nb))
+module _ {table places sₑ s₀ repₑ rep₀ : List ℕ} {na d nb at : ℕ} {st₀ : State} (R : Ready table places sₑ na nb) (near : Near at (na + nb))
     (B : Began table places sₑ na d nb repₑ at s₀ rep₀ st₀) where
   pub loop-first : length s₀ ≡ length sₑ → Loop table places s₀ rep₀ st₀ at (na + nb) s₀ rep₀ st₀
   loop-first len = record {
@@ -56,10 +56,10 @@ module _ (table places sₑ s₀ repₑ rep₀ : List ℕ) (na d nb at : ℕ) (s
     next = λ setting known goal repₑ short N. N;
   }
 
-  pub loop-last : (s rep : List ℕ) (st : State) → Loop table places s₀ rep₀ st₀ at (na + nb) s rep st → st .todo ≡ 0
+  pub loop-last : {s rep : List ℕ} {st : State} → Loop table places s₀ rep₀ st₀ at (na + nb) s rep st → st .todo ≡ 0
       → Placed (placing d) table places sₑ na nb s (st .refusal) (st .n) (st .pairings) repₑ at rep (st .at)
   unfolding placing
-  loop-last s rep st L e = record {
+  loop-last L e = record {
     few = omega (arith, L .numbers .fits, L .numbers .high);
     done = λ setting known a b two.
         let small : nodes a + nodes b ≤ 65536 = omega (arith, two .left-nodes, two .right-nodes, R .small) in
@@ -77,7 +77,7 @@ near-pair : {setting : Setting} {goal : Result Usage} {repₑ : List ℕ} {at : 
     → Near at total → st .n + st .m + 1 ≤ total → Near (st .at) (st .n + st .m)
 near-pair Q near less = omega (arith, Q .report .place, headed (Q .y) (Q .w) (Q .o), Q .few, Q .room)
 
-module _ (table places s₀ s rep₀ rep : List ℕ) (st₀ st : State) (at total x e k : ℕ) (L : Loop table places s₀ rep₀ st₀ at total s rep st) (more : st .todo ≡ 0 → ⊥)
+module _ {table places s₀ s rep₀ rep : List ℕ} {st₀ st : State} {at total x e k : ℕ} (L : Loop table places s₀ rep₀ st₀ at total s rep st) (more : st .todo ≡ 0 → ⊥)
     (ex : x ≡ st .x * 32) (ee : e ≡ (st .x + st .n + st .m) * 32) (ek : k ≡ e - x) where
   pub pair-ready : Ready table places (take k (drop x s)) (st .n) (st .m)
   pair-ready =
@@ -97,7 +97,7 @@ module _ (table places s₀ s rep₀ rep : List ℕ) (st₀ st : State) (at tota
   pair-near = near-pair (L .alive .goes more) (L .near) (omega (arith, L .numbers .less, L .numbers .high))
 
   -- a turn, where the call's answer A is what the state asks for
-  module _ (y s₂ rep′ : List ℕ) (r : Outcome) (A : Setting → Usage → Usage → Result Usage) (is : (setting : Setting) (t u : Usage) → A setting t u ≡ act setting (st .todo) (st .d) t u)
+  module _ {y s₂ rep′ : List ℕ} {r : Outcome} {A : Setting → Usage → Usage → Result Usage} (is : (setting : Setting) (t u : Usage) → A setting t u ≡ act setting (st .todo) (st .d) t u)
       (P : Placed A table places (take k (drop x s)) (st .n) (st .m) y (r .refusal) (r .nodes) (r .pairings) rep (st .at) rep′ (r .at))
       (ly : length y ≡ length (take k (drop x s))) (back : s₂ ≡ take x s ++ (y ++ drop k (drop x s))) (d-fits : st .d ≤ max32) where
     took-pair : (setting : Setting) → Known table places setting → (goal : Result Usage) (repₑ : List ℕ) → Next setting goal repₑ at s rep st total
@@ -141,9 +141,9 @@ module _ (table places s₀ s rep₀ rep : List ℕ) (st₀ st : State) (at tota
           small = L .small;
         }
 
-    pub loop-again : (s₃ rep₃ : List ℕ) (st′ : State) → length s₃ ≡ length s₂ → length rep′ ≡ length rep → length rep₃ ≡ length rep′
+    pub loop-again : {s₃ rep₃ : List ℕ} {st′ : State} → length s₃ ≡ length s₂ → length rep′ ≡ length rep → length rep₃ ≡ length rep′
         → Settled s₂ rep′ st r total s₃ rep₃ st′ → Loop table places s₀ rep₀ st₀ at total s₃ rep₃ st′
-    loop-again s₃ rep₃ st′ l₃ lr lr₃ S =
+    loop-again {s₃} {rep₃} {st′} l₃ lr lr₃ S =
         let step : (setting : Setting) → Known table places setting → (goal : Result Usage) (repₑ : List ℕ) → Short at goal → Next setting goal repₑ at s rep st total
         → Next setting goal repₑ at s₃ rep₃ st′ total = λ setting known goal repₑ short X. S .next setting goal repₑ at (took-pair setting known goal repₑ X) short in
         record {

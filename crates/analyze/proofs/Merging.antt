@@ -1,20 +1,20 @@
 -- Merging is placing at 0 in the one that receives, which the two roots tell: only sizes and commands are asked for.
 -- Assumes nothing.
-use Prim.Native.Nat.{ℕ, _+_, _*_, _%_, _<_, _≤_}
-use mathlib.Core.Path.{_≡_, refl, sym, ap, _∙_}
+use Prim.Native.Nat.{ℕ, _+_}
+use mathlib.Core.Path.{_≡_, refl, sym, _∙_}
 use mathlib.Core.Bool.{Bool, true, false}
 use mathlib.Core.List.{List}
 use native.Mathlib.Omega.{arith}
 use lib.ListN.{length}
 use Rattle.definitions.specs.If.{if_then_else_}
-use Rattle.definitions.specs.Usage.{dynamic, Usage, unused, leaf, map, array, none, size, nodes}
+use Rattle.definitions.specs.Usage.{Usage, unused, leaf, map, array, none, size}
 use Rattle.definitions.specs.Command.{strictness}
 use Rattle.definitions.specs.Table.{Setting}
-use Rattle.definitions.specs.Place.{Result, place, mergeMem, firstReceives}
+use Rattle.definitions.specs.Place.{place, mergeMem, firstReceives}
 use Rattle.qptr.specs.Values.{Stands, Receives}
 use Rattle.qptr.specs.declared.Node.{Node}
-use Rattle.records.specs.Records.{commandIn, sizeIn, Exchanged}
-use Rattle.records.specs.Usages.{Root, At}
+use Rattle.records.specs.Records.{Exchanged}
+use Rattle.records.specs.Usages.{Root}
 use Rattle.records.proofs.Usages.{root-of, same-at, at-move}
 use Rattle.states.specs.Calls.{Two, Ready, placing, merging, Placed}
 use Rattle.analyze.specs.Tops.{Top}
@@ -67,8 +67,8 @@ module _ {k : ℕ} {s : List ℕ} {na nb : ℕ} {a b : Usage} (two : Two k s na 
     right-fits = two .left-fits;
   }
 
-pub ready-exchanged : (table places s s₁ : List ℕ) (na nb : ℕ) → Ready table places s na nb → Exchanged s s₁ na nb → length s₁ ≡ length s → Ready table places s₁ nb na
-ready-exchanged table places s s₁ na nb R E l = record {
+pub ready-exchanged : {table places s s₁ : List ℕ} {na nb : ℕ} → Ready table places s na nb → Exchanged s s₁ na nb → length s₁ ≡ length s → Ready table places s₁ nb na
+ready-exchanged R E l = record {
   setting = R .setting;
   known = R .known;
   a = R .b;

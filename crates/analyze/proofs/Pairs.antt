@@ -1,29 +1,25 @@
 -- A pair's part of the bytes holds the pair, and what the call makes of it stands where the pair stood: records move with the part, and back with it.
 -- Assumes nothing.
-use Prim.Native.Nat.{ℕ, zero, suc, _+_, _-_, _*_, _%_, _^_, _<_, _≤_}
-use mathlib.Core.Path.{_≡_, refl, sym, ap, _∙_, subst}
-use mathlib.Core.List.{List, [], _∷_, _++_}
+use Prim.Native.Nat.{ℕ, zero, suc, _+_, _-_, _*_, _^_, _<_, _≤_}
+use mathlib.Core.Path.{_≡_, refl, ap, _∙_}
+use mathlib.Core.List.{List, _++_}
 use native.Mathlib.Omega.{arith}
-use native.Mathlib.Nat.{mul-le-mul-left, mul-le-mul-right}
+use native.Mathlib.Nat.{mul-le-mul-right}
 use lib.ListN.{length, take, drop, length-append, length-drop}
 use lib.Seq.{length-take-le}
 use Rattle.definitions.specs.Limits.{max32}
-use Rattle.definitions.specs.Usage.{Usage, Entries, nodes, nodesIn}
+use Rattle.definitions.specs.Usage.{Usage, nodes, nodesIn}
 use Rattle.definitions.specs.Table.{Setting}
-use Rattle.definitions.specs.Place.{Result, refused, done, place, mergeMem}
+use Rattle.definitions.specs.Place.{Result, refused, done, place}
 use Rattle.definitions.specs.Inner.Storable.{Storable}
 use Rattle.definitions.specs.Inner.Pairs.{pairs}
-use Rattle.definitions.proofs.Reports.{placingBytes}
 use Rattle.definitions.proofs.Bound.{Bounded, Within, Within.barred, Within.answer, place-within, mergeMem-within}
 use Rattle.definitions.proofs.Stored.{place-storable, mergeMem-storable}
-use Rattle.records.specs.Records.{Same}
-use Rattle.records.specs.Usages.{At}
 use Rattle.records.proofs.Parts.{same-part, same-back, same-below, same-above}
 use Rattle.records.proofs.Usages.{same-at, at-move}
-use Rattle.report.specs.Emitted.{Emitted}
 use Rattle.report.proofs.Emitting.{emitted-after}
-use Rattle.states.specs.Calls.{Two, Fine, Done}
-use Rattle.states.specs.States.{Beyond, entries, element, joins, spare, act, heading, entryHead, Numbers, Pending, Given, Gave, Took}
+use Rattle.states.specs.Calls.{Two, Done}
+use Rattle.states.specs.States.{Beyond, entries, element, joins, spare, act, Numbers, Pending, Gave, Took}
 use Rattle.states.specs.declared.State.{State}
 use Rattle.states.specs.declared.Outcome.{Outcome}
 use Rattle.states.proofs.Framing.{outside-kept}

@@ -1,7 +1,7 @@
 -- A leaf stays a leaf where it stood, with the type that is kept, strict if either was: so rule 4 ends where it begins.
 -- Assumes nothing.
-use Prim.Native.Nat.{ℕ, _+_, _≤_}
-use mathlib.Core.Path.{_≡_, refl, sym, _∙_}
+use Prim.Native.Nat.{ℕ, _+_}
+use mathlib.Core.Path.{_≡_, refl, _∙_}
 use mathlib.Core.Bool.{Bool, true, false, _||_}
 use mathlib.Core.List.{List, []}
 use native.Mathlib.Omega.{arith}
@@ -12,7 +12,6 @@ use Rattle.definitions.specs.Table.{Setting}
 use Rattle.definitions.specs.Place.{after, isStrict, placeByKind, place}
 use Rattle.records.specs.Records.{commandIn, Typed as Retyped}
 use Rattle.records.specs.Usages.{At}
-use Rattle.records.proofs.Usages.{root-of}
 use Rattle.report.specs.Emitted.{Emitted}
 use Rattle.states.specs.Calls.{Known, Two, Ready}
 use Rattle.states.specs.States.{Next, Begins}

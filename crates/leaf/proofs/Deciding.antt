@@ -3,7 +3,6 @@
 use Prim.Native.Nat.{ℕ}
 use mathlib.Core.Path.{_≡_, refl}
 use mathlib.Core.Bool.{Bool, true, false}
-use native.Mathlib.Omega.{arith}
 use Rattle.definitions.specs.If.{if_then_else_}
 use Rattle.definitions.specs.Usage.{Usage}
 use Rattle.definitions.specs.Table.{Setting, TypeLayout, concrete, handle, failed, layoutOf}

@@ -1,21 +1,21 @@
 -- A leaf's record says its type, and b has one at 0 exactly if d is 0 and its command is a leaf's.
 -- Assumes nothing.
-use Prim.Native.Nat.{ℕ, zero, suc, _+_, _*_, _<_, _≤_}
+use Prim.Native.Nat.{ℕ, zero, suc, _<_}
 use mathlib.Core.Path.{_≡_, refl, sym, ap, _∙_}
 use mathlib.Core.Bool.{Bool, true, false}
 use mathlib.Core.List.{List}
-use mathlib.Core.Option.{Option, none as nothing, some}
+use mathlib.Core.Option.{none as nothing, some}
 use native.Mathlib.Omega.{arith}
 use lib.ListN.{length}
-use Rattle.definitions.specs.Usage.{Size, Usage, unused, leaf, map, array, nodes}
+use Rattle.definitions.specs.Usage.{Size, Usage, unused, leaf, map, array}
 use Rattle.definitions.specs.Command.{headOf}
 use Rattle.definitions.specs.Place.{typeAtZero}
 use Rattle.records.specs.Records.{commandIn, argumentIn}
-use Rattle.records.specs.Usages.{Root, At}
+use Rattle.records.specs.Usages.{At}
 use Rattle.records.proofs.Usages.{root-of}
-use Rattle.states.specs.Calls.{Known, Two, Ready}
-use Rattle.support.specs.Known.{TypeKnown, Stands, Askable}
-use Rattle.leaf.specs.Leaves.{Typed, TypeAt, typeIf}
+use Rattle.states.specs.Calls.{Two, Ready}
+use Rattle.support.specs.Known.{Askable}
+use Rattle.leaf.specs.Leaves.{Typed, TypeAt}
 
 pub data IsLeaf : Usage → Type 0 where
   is-leaf : (z : Size) (k : Bool) (t : ℕ) → IsLeaf (leaf z k t)

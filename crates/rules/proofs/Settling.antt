@@ -2,7 +2,7 @@
 -- reported, which the positions tell since a report never comes round to them, and a refusal is the goal's.
 -- Assumes nothing.
 use Prim.Native.Nat.{ℕ, suc, _+_, _-_, _*_, _%_, _^_, _<_, _≤_}
-use mathlib.Core.Path.{_≡_, refl, sym, ap, _∙_}
+use mathlib.Core.Path.{_≡_, refl, _∙_}
 use mathlib.Core.List.{List, [], _∷_, _++_, append-assoc, append-nil}
 use native.Mathlib.Omega.{arith}
 use lib.ListN.{length, length-append}
@@ -13,7 +13,7 @@ use Rattle.definitions.specs.Place.{Result, refused, done, ofEntry}
 use Rattle.definitions.proofs.Reports.{of-entry}
 use Rattle.report.specs.Emitted.{Emitted}
 use Rattle.report.proofs.Emitting.{emitted-back}
-use Rattle.states.specs.States.{Beyond, entries, element, joins, finish, heading, entryHead, marked, resume, Standing, Outside, Next, Short, Moves, Answered, Given, Gave, Took, Settled}
+use Rattle.states.specs.States.{Beyond, entries, element, joins, heading, entryHead, marked, resume, Outside, Next, Short, Moves, Answered, Given, Gave, Settled}
 use Rattle.states.specs.Ends.{refusedState}
 use Rattle.states.specs.declared.State.{State}
 use Rattle.states.specs.declared.Outcome.{Outcome}

@@ -1,7 +1,7 @@
 -- The refusal by sizes is what the tests say: 9 before 8, and 8 where the sum is past a's size, since then the larger of the two is not a's.
 -- Assumes nothing.
 use Prim.Native.Nat.{ℕ, _+_, _<_, _≤_, max}
-use mathlib.Core.Path.{_≡_, refl}
+use mathlib.Core.Path.{_≡_}
 use mathlib.Core.Bool.{true, false}
 use native.Mathlib.Omega.{arith}
 use lib.Dec.{eqb}

@@ -1,3 +1,5 @@
+-- Both call on fewer nodes, or merging on the same: the measure counts the nodes of both sides twice, and merging once more. The loop keeps its goal ahead.
+-- Assumes nothing.
 use borrow.Author.Needs.{needs}
 use mathlib.Core.Path.{refl}
 use Prim.Native.Nat.{ℕ, _+_, _*_, _<_}
@@ -51,51 +53,42 @@ merge-mem-claims t = (top-reads.Asked, top-reads.Learnt, first-receives-reads.As
 abbrev merge-mem-at-claims : ℕ → merge-mem-at-lts.Claims
 merge-mem-at-claims t = (begin-reads.Asked, begin-reads.Learnt, merge-mem-below t, merge-mem.Post, settle-reads.Asked, settle-reads.Learnt, merge-mem-at-below t, merge-mem-at′.Post)
 
--- src/lib.rt:97:23
 merge-mem-top-requires : (t : ℕ) → merge-mem-lts.Need-top-requires (merge-mem-claims t) (merge-mem-at t) merge-mem.Post
 merge-mem-top-requires t c κs = search needs
 
--- src/lib.rt:97:34
 merge-mem-top-requires-2 : (t : ℕ) → merge-mem-lts.Need-top-requires-2 (merge-mem-claims t) (merge-mem-at t) merge-mem.Post
 merge-mem-top-requires-2 t c κs = search needs
 
--- src/lib.rt:97:8
 merge-mem-first-receives-requires : (t : ℕ) → merge-mem-lts.Need-first-receives-requires (merge-mem-claims t) (merge-mem-at t) merge-mem.Post
 merge-mem-first-receives-requires t c κs = search needs
 
--- src/lib.rt:98:9
 merge-mem-merge-mem-at-requires : (t : ℕ) → merge-mem-lts.Need-merge-mem-at-requires (merge-mem-claims t) (merge-mem-at t) merge-mem.Post
 merge-mem-merge-mem-at-requires t c κs = search needs
 
--- src/lib.rt:98:9
 merge-mem-same-length : (t : ℕ) → merge-mem-lts.Need-same-length (merge-mem-claims t) (merge-mem-at t) merge-mem.Post
 merge-mem-same-length t c = search needs
 
--- src/lib.rt:98:9
 merge-mem-same-length-2 : (t : ℕ) → merge-mem-lts.Need-same-length-2 (merge-mem-claims t) (merge-mem-at t) merge-mem.Post
 merge-mem-same-length-2 t c = search needs
 
--- src/lib.rt:98:9
 merge-mem-returns : (t : ℕ) → merge-mem-lts.Need-returns (merge-mem-claims t) (merge-mem-at t) merge-mem.Post
 merge-mem-returns t c = search (merged-left, needs)
 
--- src/lib.rt:100:5
 merge-mem-exchange-requires : (t : ℕ) → merge-mem-lts.Need-exchange-requires (merge-mem-claims t) (merge-mem-at t) merge-mem.Post
 merge-mem-exchange-requires t c κs = search needs
 
--- src/lib.rt:101:5
 merge-mem-merge-mem-at-requires-2 : (t : ℕ) → merge-mem-lts.Need-merge-mem-at-requires-2 (merge-mem-claims t) (merge-mem-at t) merge-mem.Post
-merge-mem-merge-mem-at-requires-2 t c κs = (omega (arith, c .before .before .before .before .before .before .before .before .before .before .before .before .before .before .before .before .pre .0), (ready-exchanged _ _ _ _ _ _ (c .before .before .before .before .before .before .before .before .before .before .before .before .before .before .before .before .pre .1 .0) (c .before .before .before .before .exchange .ensures) (c .before .before .before .before .exchange .kept .0), omega (arith, c .before .before .before .before .before .before .before .before .before .before .before .before .before .before .before .before .pre .1 .1)))
+merge-mem-merge-mem-at-requires-2 t c κs =
+    let exchanged : _ = c .before .before .before .before in
+    let start : _ = exchanged .before .before .before .before .before .before .before .before .before .before .before .before in
+    (omega (arith, start .pre .0), (ready-exchanged (start .pre .1 .0) (exchanged .exchange .ensures) (exchanged .exchange .kept .0), omega (arith, start .pre .1 .1)))
 
--- src/lib.rt:84:1
 merge-mem-same-length-3 : (t : ℕ) → merge-mem-lts.Need-same-length-3 (merge-mem-claims t) (merge-mem-at t) merge-mem.Post
 merge-mem-same-length-3 t c = search needs
 
--- src/lib.rt:84:1
 merge-mem-same-length-4 : (t : ℕ) → merge-mem-lts.Need-same-length-4 (merge-mem-claims t) (merge-mem-at t) merge-mem.Post
 merge-mem-same-length-4 t c = search needs
 
--- src/lib.rt:84:1
 merge-mem-returns-2 : (t : ℕ) → merge-mem-lts.Need-returns-2 (merge-mem-claims t) (merge-mem-at t) merge-mem.Post
 merge-mem-returns-2 t c = search (merged-right, needs)
 
@@ -105,101 +98,130 @@ merge-mem-at-Inv-loop table places s₀ na d nb rep₀ at total st₀ s rep st =
 abbrev merge-mem-at-μ-loop : merge-mem-at-lts.MeasureT-loop
 merge-mem-at-μ-loop table places s₀ na d nb rep₀ at total st₀ s rep st = st .rest * 4 + st .todo
 
--- src/lib.rt:62:17
 merge-mem-at-add-total : (t : ℕ) → merge-mem-at-lts.Need-add-total (merge-mem-at-claims t) (merge-mem-at-at t) merge-mem-at′.Post merge-mem-at-Inv-loop merge-mem-at-μ-loop
 merge-mem-at-add-total t c = search needs
 
--- src/lib.rt:63:9
 merge-mem-at-begin-requires : (t : ℕ) → merge-mem-at-lts.Need-begin-requires (merge-mem-at-claims t) (merge-mem-at-at t) merge-mem-at′.Post merge-mem-at-Inv-loop merge-mem-at-μ-loop
 merge-mem-at-begin-requires t c κs = search needs
 
--- src/lib.rt:64:5
 merge-mem-at-loop-holds : (t : ℕ) → merge-mem-at-lts.Need-loop-holds (merge-mem-at-claims t) (merge-mem-at-at t) merge-mem-at′.Post merge-mem-at-Inv-loop merge-mem-at-μ-loop
-merge-mem-at-loop-holds t c = loop-first _ _ _ _ _ _ _ _ _ _ _ (c .before .before .before .before .before .before .before .before .before .before .before .pre .1 .0) (c .before .before .before .before .before .before .before .before .before .before .before .pre .1 .1) (c .before .before .before .before .begin .ensures) (c .before .before .before .before .begin .kept .1 .1 .0)
+merge-mem-at-loop-holds t c =
+    let begun : _ = c .before .before .before .before in
+    let start : _ = begun .before .before .before .before .before .before .before in
+    loop-first (start .pre .1 .0) (start .pre .1 .1) (begun .begin .ensures) (begun .begin .kept .1 .1 .0)
 
--- src/lib.rt:65:17
 merge-mem-at-mul-x : (t : ℕ) → merge-mem-at-lts.Need-mul-x (merge-mem-at-claims t) (merge-mem-at-at t) merge-mem-at′.Post merge-mem-at-Inv-loop merge-mem-at-μ-loop
 merge-mem-at-mul-x t c = search needs
 
--- src/lib.rt:66:18
 merge-mem-at-add-e : (t : ℕ) → merge-mem-at-lts.Need-add-e (merge-mem-at-claims t) (merge-mem-at-at t) merge-mem-at′.Post merge-mem-at-Inv-loop merge-mem-at-μ-loop
 merge-mem-at-add-e t c = search needs
 
--- src/lib.rt:66:18
 merge-mem-at-add-e-2 : (t : ℕ) → merge-mem-at-lts.Need-add-e-2 (merge-mem-at-claims t) (merge-mem-at-at t) merge-mem-at′.Post merge-mem-at-Inv-loop merge-mem-at-μ-loop
 merge-mem-at-add-e-2 t c = search needs
 
--- src/lib.rt:66:17
 merge-mem-at-mul-e : (t : ℕ) → merge-mem-at-lts.Need-mul-e (merge-mem-at-claims t) (merge-mem-at-at t) merge-mem-at′.Post merge-mem-at-Inv-loop merge-mem-at-μ-loop
-merge-mem-at-mul-e t c = omega (arith, c .before .before .before .before .before .loop .inv .numbers .fits, c .before .before .before .before .before .loop .inv .numbers .high, c .before .before .before .before .before .loop .inv .small)
+merge-mem-at-mul-e t c =
+    let turn : _ = c .before .before .before .before .before in
+    omega (arith, turn .loop .inv .numbers .fits, turn .loop .inv .numbers .high, turn .loop .inv .small)
 
--- src/lib.rt:68:46
 merge-mem-at-sub-merge-mem : (t : ℕ) → merge-mem-at-lts.Need-sub-merge-mem (merge-mem-at-claims t) (merge-mem-at-at t) merge-mem-at′.Post merge-mem-at-Inv-loop merge-mem-at-μ-loop
 merge-mem-at-sub-merge-mem t c = search needs
 
--- src/lib.rt:68:46
 merge-mem-at-part-merge-mem-start : (t : ℕ) → merge-mem-at-lts.Need-part-merge-mem-start (merge-mem-at-claims t) (merge-mem-at-at t) merge-mem-at′.Post merge-mem-at-Inv-loop merge-mem-at-μ-loop
 merge-mem-at-part-merge-mem-start t c = search needs
 
--- src/lib.rt:68:46
 merge-mem-at-part-merge-mem-end : (t : ℕ) → merge-mem-at-lts.Need-part-merge-mem-end (merge-mem-at-claims t) (merge-mem-at-at t) merge-mem-at′.Post merge-mem-at-Inv-loop merge-mem-at-μ-loop
-merge-mem-at-part-merge-mem-end t c = omega (arith, c .before .before .before .before .before .before .before .loop .inv .numbers .fits, c .before .before .before .before .before .before .before .loop .inv .numbers .high, c .before .before .before .before .before .before .before .loop .inv .len)
+merge-mem-at-part-merge-mem-end t c =
+    let turn : _ = c .before .before .before .before .before .before .before in
+    omega (arith, turn .loop .inv .numbers .fits, turn .loop .inv .numbers .high, turn .loop .inv .len)
 
--- src/lib.rt:68:17
 merge-mem-at-merge-mem-requires : (t : ℕ) → merge-mem-at-lts.Need-merge-mem-requires (merge-mem-at-claims t) (merge-mem-at-at t) merge-mem-at′.Post merge-mem-at-Inv-loop merge-mem-at-μ-loop
-merge-mem-at-merge-mem-requires t c κs = (omega (arith, c .before .before .before .before .before .before .before .before .before .loop .inv .numbers .less, c .before .before .before .before .before .before .before .before .before .loop .inv .numbers .fits, c .before .before .before .before .before .before .before .before .before .loop .inv .numbers .high, c .before .before .before .before .before .before .before .if1 .taken, c .before .before .before .before .before .before .before .before .before .before .before .before .before .before .before .before .before .before .before .before .before .pre .0), (pair-ready _ _ _ _ _ _ _ _ _ _ _ _ _ (c .before .before .before .before .before .before .before .before .before .loop .inv) (c .before .before .before .before .before .before .before .if1 .taken) refl refl refl, pair-near _ _ _ _ _ _ _ _ _ _ _ _ _ (c .before .before .before .before .before .before .before .before .before .loop .inv) (c .before .before .before .before .before .before .before .if1 .taken) refl refl refl))
+merge-mem-at-merge-mem-requires t c κs =
+    let tested : _ = c .before .before .before .before .before .before .before in
+    let turn : _ = tested .before .before in
+    let start : _ = turn .before .before .before .before .before .before .before .before .before .before .before .before in
+    (omega (arith, turn .loop .inv .numbers .less, turn .loop .inv .numbers .fits, turn .loop .inv .numbers .high, tested .if1 .taken, start .pre .0), (pair-ready (turn .loop .inv) (tested .if1 .taken) refl refl refl, pair-near (turn .loop .inv) (tested .if1 .taken) refl refl refl))
 
--- src/lib.rt:69:13
 merge-mem-at-settle-requires : (t : ℕ) → merge-mem-at-lts.Need-settle-requires (merge-mem-at-claims t) (merge-mem-at-at t) merge-mem-at′.Post merge-mem-at-Inv-loop merge-mem-at-μ-loop
-merge-mem-at-settle-requires t c κs = pair-answered _ _ _ _ _ _ _ _ _ _ _ _ _ (c .before .before .before .before .before .before .before .before .before .before .before .before .before .before .before .before .loop .inv) (c .before .before .before .before .before .before .before .before .before .before .before .before .before .before .if1 .taken) refl refl refl _ _ _ _ _ (is-merging _ _ (c .before .before .before .before .before .before .before .before .before .if2 .taken)) (c .before .before .before .before .before .before .merge-mem .ensures) (c .before .before .before .before .before .before .merge-mem .kept .1 .1 .0) refl (omega (arith, c .before .before .before .before .before .before .before .before .before .before .before .before .before .before .before .struct-known .given))
+merge-mem-at-settle-requires t c κs =
+    let called : _ = c .before .before .before .before .before .before in
+    let chosen : _ = called .before .before .before in
+    let tested : _ = chosen .before .before .before .before .before in
+    let known : _ = tested .before in
+    let turn : _ = known .before in
+    pair-answered (turn .loop .inv) (tested .if1 .taken) refl refl refl (is-merging _ _ (chosen .if2 .taken)) (called .merge-mem .ensures) (called .merge-mem .kept .1 .1 .0) refl (omega (arith, known .struct-known .given))
 
--- src/lib.rt:64:5
 merge-mem-at-loop-less : (t : ℕ) → merge-mem-at-lts.Need-loop-less (merge-mem-at-claims t) (merge-mem-at-at t) merge-mem-at′.Post merge-mem-at-Inv-loop merge-mem-at-μ-loop
-merge-mem-at-loop-less t c = omega (arith, c .before .before .before .before .settle .ensures .fall, c .before .before .before .before .settle .ensures .numbers .todo, c .before .before .before .before .before .before .before .before .before .before .before .before .before .before .before .before .before .before .before .if1 .taken)
+merge-mem-at-loop-less t c =
+    let settled : _ = c .before .before .before .before in
+    let tested : _ = settled .before .before .before .before .before .before .before .before .before .before .before .before .before .before .before in
+    omega (arith, settled .settle .ensures .fall, settled .settle .ensures .numbers .todo, tested .if1 .taken)
 
--- src/lib.rt:64:5
 merge-mem-at-loop-again : (t : ℕ) → merge-mem-at-lts.Need-loop-again (merge-mem-at-claims t) (merge-mem-at-at t) merge-mem-at′.Post merge-mem-at-Inv-loop merge-mem-at-μ-loop
-merge-mem-at-loop-again t c = loop-again _ _ _ _ _ _ _ _ _ _ _ _ _ (c .before .before .before .before .before .before .before .before .before .before .before .before .before .before .before .before .before .before .before .before .before .loop .inv) (c .before .before .before .before .before .before .before .before .before .before .before .before .before .before .before .before .before .before .before .if1 .taken) refl refl refl _ _ _ _ _ (is-merging _ _ (c .before .before .before .before .before .before .before .before .before .before .before .before .before .before .if2 .taken)) (c .before .before .before .before .before .before .before .before .before .before .before .merge-mem .ensures) (c .before .before .before .before .before .before .before .before .before .before .before .merge-mem .kept .1 .1 .0) refl (omega (arith, c .before .before .before .before .before .before .before .before .before .before .before .before .before .before .before .before .before .before .before .before .struct-known .given)) _ _ _ (c .before .before .before .before .settle .kept .0) (c .before .before .before .before .before .before .before .before .before .before .before .merge-mem .kept .1 .1 .1 .1 .1 .0) (c .before .before .before .before .settle .kept .1 .1 .1 .0) (c .before .before .before .before .settle .ensures)
+merge-mem-at-loop-again t c =
+    let settled : _ = c .before .before .before .before in
+    let called : _ = settled .before .before .before .before .before .before .before in
+    let chosen : _ = called .before .before .before in
+    let tested : _ = chosen .before .before .before .before .before in
+    let known : _ = tested .before in
+    let turn : _ = known .before in
+    loop-again (turn .loop .inv) (tested .if1 .taken) refl refl refl (is-merging _ _ (chosen .if2 .taken)) (called .merge-mem .ensures) (called .merge-mem .kept .1 .1 .0) refl (omega (arith, known .struct-known .given)) (settled .settle .kept .0) (called .merge-mem .kept .1 .1 .1 .1 .1 .0) (settled .settle .kept .1 .1 .1 .0) (settled .settle .ensures)
 
--- src/lib.rt:71:49
 merge-mem-at-sub-merge-mem-at : (t : ℕ) → merge-mem-at-lts.Need-sub-merge-mem-at (merge-mem-at-claims t) (merge-mem-at-at t) merge-mem-at′.Post merge-mem-at-Inv-loop merge-mem-at-μ-loop
 merge-mem-at-sub-merge-mem-at t c = search needs
 
--- src/lib.rt:71:49
 merge-mem-at-part-merge-mem-at-start : (t : ℕ) → merge-mem-at-lts.Need-part-merge-mem-at-start (merge-mem-at-claims t) (merge-mem-at-at t) merge-mem-at′.Post merge-mem-at-Inv-loop merge-mem-at-μ-loop
 merge-mem-at-part-merge-mem-at-start t c = search needs
 
--- src/lib.rt:71:49
 merge-mem-at-part-merge-mem-at-end : (t : ℕ) → merge-mem-at-lts.Need-part-merge-mem-at-end (merge-mem-at-claims t) (merge-mem-at-at t) merge-mem-at′.Post merge-mem-at-Inv-loop merge-mem-at-μ-loop
-merge-mem-at-part-merge-mem-at-end t c = omega (arith, c .before .before .before .before .before .before .before .loop .inv .numbers .fits, c .before .before .before .before .before .before .before .loop .inv .numbers .high, c .before .before .before .before .before .before .before .loop .inv .len)
+merge-mem-at-part-merge-mem-at-end t c =
+    let turn : _ = c .before .before .before .before .before .before .before in
+    omega (arith, turn .loop .inv .numbers .fits, turn .loop .inv .numbers .high, turn .loop .inv .len)
 
--- src/lib.rt:71:17
 merge-mem-at-merge-mem-at-requires : (t : ℕ) → merge-mem-at-lts.Need-merge-mem-at-requires (merge-mem-at-claims t) (merge-mem-at-at t) merge-mem-at′.Post merge-mem-at-Inv-loop merge-mem-at-μ-loop
-merge-mem-at-merge-mem-at-requires t c κs = (omega (arith, c .before .before .before .before .before .before .before .before .before .loop .inv .numbers .less, c .before .before .before .before .before .before .before .before .before .loop .inv .numbers .fits, c .before .before .before .before .before .before .before .before .before .loop .inv .numbers .high, c .before .before .before .before .before .before .before .if1 .taken, c .before .before .before .before .before .before .before .before .before .before .before .before .before .before .before .before .before .before .before .before .before .pre .0), (pair-ready _ _ _ _ _ _ _ _ _ _ _ _ _ (c .before .before .before .before .before .before .before .before .before .loop .inv) (c .before .before .before .before .before .before .before .if1 .taken) refl refl refl, pair-near _ _ _ _ _ _ _ _ _ _ _ _ _ (c .before .before .before .before .before .before .before .before .before .loop .inv) (c .before .before .before .before .before .before .before .if1 .taken) refl refl refl))
+merge-mem-at-merge-mem-at-requires t c κs =
+    let tested : _ = c .before .before .before .before .before .before .before in
+    let turn : _ = tested .before .before in
+    let start : _ = turn .before .before .before .before .before .before .before .before .before .before .before .before in
+    (omega (arith, turn .loop .inv .numbers .less, turn .loop .inv .numbers .fits, turn .loop .inv .numbers .high, tested .if1 .taken, start .pre .0), (pair-ready (turn .loop .inv) (tested .if1 .taken) refl refl refl, pair-near (turn .loop .inv) (tested .if1 .taken) refl refl refl))
 
--- src/lib.rt:72:13
 merge-mem-at-settle-requires-2 : (t : ℕ) → merge-mem-at-lts.Need-settle-requires-2 (merge-mem-at-claims t) (merge-mem-at-at t) merge-mem-at′.Post merge-mem-at-Inv-loop merge-mem-at-μ-loop
-merge-mem-at-settle-requires-2 t c κs = pair-answered _ _ _ _ _ _ _ _ _ _ _ _ _ (c .before .before .before .before .before .before .before .before .before .before .before .before .before .before .before .before .loop .inv) (c .before .before .before .before .before .before .before .before .before .before .before .before .before .before .if1 .taken) refl refl refl _ _ _ _ _ (is-placing _ _ (c .before .before .before .before .before .before .before .before .before .before .before .before .before .before .before .before .loop .inv .numbers .todo) (c .before .before .before .before .before .before .before .before .before .if2 .left)) (c .before .before .before .before .before .before .merge-mem-at .ensures) (c .before .before .before .before .before .before .merge-mem-at .kept .1 .1 .0) refl (omega (arith, c .before .before .before .before .before .before .before .before .before .before .before .before .before .before .before .struct-known .given))
+merge-mem-at-settle-requires-2 t c κs =
+    let called : _ = c .before .before .before .before .before .before in
+    let chosen : _ = called .before .before .before in
+    let tested : _ = chosen .before .before .before .before .before in
+    let known : _ = tested .before in
+    let turn : _ = known .before in
+    pair-answered (turn .loop .inv) (tested .if1 .taken) refl refl refl (is-placing _ _ (turn .loop .inv .numbers .todo) (chosen .if2 .left)) (called .merge-mem-at .ensures) (called .merge-mem-at .kept .1 .1 .0) refl (omega (arith, known .struct-known .given))
 
--- src/lib.rt:64:5
 merge-mem-at-loop-less-2 : (t : ℕ) → merge-mem-at-lts.Need-loop-less-2 (merge-mem-at-claims t) (merge-mem-at-at t) merge-mem-at′.Post merge-mem-at-Inv-loop merge-mem-at-μ-loop
-merge-mem-at-loop-less-2 t c = omega (arith, c .before .before .before .before .settle2 .ensures .fall, c .before .before .before .before .settle2 .ensures .numbers .todo, c .before .before .before .before .before .before .before .before .before .before .before .before .before .before .before .before .before .before .before .if1 .taken)
+merge-mem-at-loop-less-2 t c =
+    let settled : _ = c .before .before .before .before in
+    let tested : _ = settled .before .before .before .before .before .before .before .before .before .before .before .before .before .before .before in
+    omega (arith, settled .settle2 .ensures .fall, settled .settle2 .ensures .numbers .todo, tested .if1 .taken)
 
--- src/lib.rt:64:5
 merge-mem-at-loop-again-2 : (t : ℕ) → merge-mem-at-lts.Need-loop-again-2 (merge-mem-at-claims t) (merge-mem-at-at t) merge-mem-at′.Post merge-mem-at-Inv-loop merge-mem-at-μ-loop
-merge-mem-at-loop-again-2 t c = loop-again _ _ _ _ _ _ _ _ _ _ _ _ _ (c .before .before .before .before .before .before .before .before .before .before .before .before .before .before .before .before .before .before .before .before .before .loop .inv) (c .before .before .before .before .before .before .before .before .before .before .before .before .before .before .before .before .before .before .before .if1 .taken) refl refl refl _ _ _ _ _ (is-placing _ _ (c .before .before .before .before .before .before .before .before .before .before .before .before .before .before .before .before .before .before .before .before .before .loop .inv .numbers .todo) (c .before .before .before .before .before .before .before .before .before .before .before .before .before .before .if2 .left)) (c .before .before .before .before .before .before .before .before .before .before .before .merge-mem-at .ensures) (c .before .before .before .before .before .before .before .before .before .before .before .merge-mem-at .kept .1 .1 .0) refl (omega (arith, c .before .before .before .before .before .before .before .before .before .before .before .before .before .before .before .before .before .before .before .before .struct-known .given)) _ _ _ (c .before .before .before .before .settle2 .kept .0) (c .before .before .before .before .before .before .before .before .before .before .before .merge-mem-at .kept .1 .1 .1 .1 .1 .1 .0) (c .before .before .before .before .settle2 .kept .1 .1 .1 .0) (c .before .before .before .before .settle2 .ensures)
+merge-mem-at-loop-again-2 t c =
+    let settled : _ = c .before .before .before .before in
+    let called : _ = settled .before .before .before .before .before .before .before in
+    let chosen : _ = called .before .before .before in
+    let tested : _ = chosen .before .before .before .before .before in
+    let known : _ = tested .before in
+    let turn : _ = known .before in
+    loop-again (turn .loop .inv) (tested .if1 .taken) refl refl refl (is-placing _ _ (turn .loop .inv .numbers .todo) (chosen .if2 .left)) (called .merge-mem-at .ensures) (called .merge-mem-at .kept .1 .1 .0) refl (omega (arith, known .struct-known .given)) (settled .settle2 .kept .0) (called .merge-mem-at .kept .1 .1 .1 .1 .1 .1 .0) (settled .settle2 .kept .1 .1 .1 .0) (settled .settle2 .ensures)
 
--- src/lib.rt:48:1
 merge-mem-at-same-length : (t : ℕ) → merge-mem-at-lts.Need-same-length (merge-mem-at-claims t) (merge-mem-at-at t) merge-mem-at′.Post merge-mem-at-Inv-loop merge-mem-at-μ-loop
 merge-mem-at-same-length t c = search needs
 
--- src/lib.rt:48:1
 merge-mem-at-same-length-2 : (t : ℕ) → merge-mem-at-lts.Need-same-length-2 (merge-mem-at-claims t) (merge-mem-at-at t) merge-mem-at′.Post merge-mem-at-Inv-loop merge-mem-at-μ-loop
 merge-mem-at-same-length-2 t c = search needs
 
--- src/lib.rt:48:1
 merge-mem-at-returns : (t : ℕ) → merge-mem-at-lts.Need-returns (merge-mem-at-claims t) (merge-mem-at-at t) merge-mem-at′.Post merge-mem-at-Inv-loop merge-mem-at-μ-loop
-merge-mem-at-returns t c = loop-last _ _ _ _ _ _ _ _ _ _ _ (c .before .before .before .before .before .before .before .before .before .before .before .before .before .before .pre .1 .0) (c .before .before .before .before .before .before .before .before .before .before .before .before .before .before .pre .1 .1) (c .before .before .before .before .before .before .before .begin .ensures) _ _ _ (c .before .before .loop .inv) (c .if1 .left)
+merge-mem-at-returns t c =
+    let turn : _ = c .before .before in
+    let begun : _ = turn .before .before .before .before .before in
+    let start : _ = begun .before .before .before .before .before .before .before in
+    loop-last (start .pre .1 .0) (start .pre .1 .1) (begun .begin .ensures) (turn .loop .inv) (c .if1 .left)
 
 pub +merge-mem+merge-mem-at-spec : {M : Type 1} → statement M
 +merge-mem+merge-mem-at-spec = close μ-merge-mem μ-merge-mem-at (λ t. merge-mem-lts.spec (merge-mem-claims t)

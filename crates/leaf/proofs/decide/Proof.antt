@@ -1,39 +1,31 @@
+-- Each answer has its own arm.
+-- Assumes nothing.
 use borrow.Author.Needs.{needs}
 use Rattle.leaf.proofs.Deciding.{decided-yes, decided-handle, decided-failed}
 use Rattle.leaf.proofs.decide.Statement.{statement}
 use Rattle.leaf.proofs.decide.Tie as tie
-use Rattle.leaf.proofs.decide.Reads as reads
-use Rattle.leaf.proofs.decide.Lts as lts
 
--- src/lib.rt:65:22
 enum-told : tie.Need-enum-told
 enum-told c = search needs
 
--- src/lib.rt:68:23
 enum-told-2 : tie.Need-enum-told-2
 enum-told-2 c = search needs
 
--- src/lib.rt:72:23
 enum-told-3 : tie.Need-enum-told-3
 enum-told-3 c = search needs
 
--- src/lib.rt:76:23
 enum-told-4 : tie.Need-enum-told-4
 enum-told-4 c = search needs
 
--- src/lib.rt:61:1
 returns : tie.Need-returns
 returns c = search needs
 
--- src/lib.rt:61:1
 returns-2 : tie.Need-returns-2
 returns-2 c = search (decided-yes, needs)
 
--- src/lib.rt:61:1
 returns-3 : tie.Need-returns-3
 returns-3 c = search (decided-handle, needs)
 
--- src/lib.rt:61:1
 returns-4 : tie.Need-returns-4
 returns-4 c = search (decided-failed, needs)
 

@@ -1,69 +1,52 @@
+-- Each conflict has its own bytes.
+-- Assumes nothing.
 use borrow.Author.Needs.{needs}
 use Rattle.leaf.proofs.Reporting.{reports-nothing, reports-types, reports-handle, reports-failed}
 use Rattle.leaf.proofs.report_conflict.Statement.{statement}
 use Rattle.leaf.proofs.report_conflict.Tie as tie
-use Rattle.leaf.proofs.report_conflict.Reads as reads
-use Rattle.leaf.proofs.report_conflict.Lts as lts
-use Rattle.report.proofs.byte.Reads as byte-reads
-use Rattle.report.proofs.word.Reads as word-reads
 
--- src/lib.rt:134:28
 enum-told : tie.Need-enum-told
 enum-told c = search needs
 
--- src/lib.rt:135:41
 enum-told-2 : tie.Need-enum-told-2
 enum-told-2 c = search needs
 
--- src/lib.rt:135:28
 byte-requires : tie.Need-byte-requires
 byte-requires c κs = search needs
 
--- src/lib.rt:136:42
 enum-told-3 : tie.Need-enum-told-3
 enum-told-3 c = search needs
 
--- src/lib.rt:136:29
 byte-requires-2 : tie.Need-byte-requires-2
 byte-requires-2 c κs = search needs
 
--- src/lib.rt:138:37
 enum-told-4 : tie.Need-enum-told-4
 enum-told-4 c = search needs
 
--- src/lib.rt:138:17
 byte-requires-3 : tie.Need-byte-requires-3
 byte-requires-3 c κs = search needs
 
--- src/lib.rt:139:13
 word-requires : tie.Need-word-requires
 word-requires c κs = search needs
 
--- src/lib.rt:129:1
 returns : tie.Need-returns
 returns c = search (reports-nothing, needs)
 
--- src/lib.rt:129:1
 same-length : tie.Need-same-length
 same-length c = search needs
 
--- src/lib.rt:129:1
 returns-2 : tie.Need-returns-2
 returns-2 c = search (reports-types, needs)
 
--- src/lib.rt:129:1
 same-length-2 : tie.Need-same-length-2
 same-length-2 c = search needs
 
--- src/lib.rt:129:1
 returns-3 : tie.Need-returns-3
 returns-3 c = search (reports-handle, needs)
 
--- src/lib.rt:129:1
 same-length-3 : tie.Need-same-length-3
 same-length-3 c = search needs
 
--- src/lib.rt:129:1
 returns-4 : tie.Need-returns-4
 returns-4 c = search (reports-failed, needs)
 

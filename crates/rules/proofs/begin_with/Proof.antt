@@ -1,75 +1,55 @@
+-- An Unused b leaves a as it is, a map at 0 goes entry by entry, and all else goes by a's kind.
+-- Assumes nothing.
 use borrow.Author.Needs.{needs}
 use Rattle.rules.proofs.Begun.{begins-unused, begins-entries}
 use Rattle.rules.proofs.begin_with.Statement.{statement}
 use Rattle.rules.proofs.begin_with.Tie as tie
-use Rattle.rules.proofs.begin_with.Reads as reads
-use Rattle.rules.proofs.begin_with.Lts as lts
-use Rattle.entries.proofs.begin_entries.Reads as begin-entries-reads
-use Rattle.records.proofs.command.Reads as command-reads
-use Rattle.rules.proofs.begin_into.Reads as begin-into-reads
-use Rattle.states.proofs.State.finished.Reads as finished-reads
 
--- src/lib.rt:91:9
 command-requires : tie.Need-command-requires
 command-requires c κs = search needs
 
--- src/lib.rt:93:9
 finished-requires : tie.Need-finished-requires
 finished-requires c κs = search needs
 
--- src/lib.rt:93:9
 same-length : tie.Need-same-length
 same-length c = search needs
 
--- src/lib.rt:93:9
 returns : tie.Need-returns
 returns c = search (begins-unused, needs)
 
--- src/lib.rt:97:13
 begin-entries-requires : tie.Need-begin-entries-requires
 begin-entries-requires c κs = search needs
 
--- src/lib.rt:97:13
 same-length-2 : tie.Need-same-length-2
 same-length-2 c = search needs
 
--- src/lib.rt:97:13
 same-length-3 : tie.Need-same-length-3
 same-length-3 c = search needs
 
--- src/lib.rt:97:13
 returns-2 : tie.Need-returns-2
 returns-2 c = search (begins-entries, needs)
 
--- src/lib.rt:99:9
 begin-into-requires : tie.Need-begin-into-requires
 begin-into-requires c κs = search needs
 
--- src/lib.rt:99:9
 same-length-4 : tie.Need-same-length-4
 same-length-4 c = search needs
 
--- src/lib.rt:99:9
 same-length-5 : tie.Need-same-length-5
 same-length-5 c = search needs
 
--- src/lib.rt:99:9
 returns-3 : tie.Need-returns-3
 returns-3 c = search needs
 
--- src/lib.rt:101:5
 begin-into-requires-2 : tie.Need-begin-into-requires-2
 begin-into-requires-2 c κs = search needs
 
--- src/lib.rt:78:1
 same-length-6 : tie.Need-same-length-6
 same-length-6 c = search needs
 
--- src/lib.rt:78:1
 same-length-7 : tie.Need-same-length-7
 same-length-7 c = search needs
 
--- src/lib.rt:78:1
 returns-4 : tie.Need-returns-4
 returns-4 c = search needs
 
