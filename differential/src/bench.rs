@@ -1,10 +1,13 @@
-//! How long the port takes. Reading is timed through `sound`, which accepts, loads and looks at each node once.
+//! How long the port takes. Reading is timed through `sound`, which accepts, loads and looks at each node once; the layout test
+//! beside the reference, on the same questions in the same run.
 
 use crate::library::time;
 use crate::notation;
 use crate::reading::calls::{MOST_NODES, WORK_AREA};
 use crate::reading::streams::{ARRAY, MAP, UNUSED, write_memory};
 use crate::reading::tables::write_table;
+#[cfg(feature = "library-supports")]
+use crate::reference::time_supports;
 use crate::side::{Buffer, Call, CallKind};
 use crate::usage::{Entry, Kind, Size, Usage};
 use std::time::Duration;
@@ -63,6 +66,87 @@ pub fn deep() -> Vec<Figure> {
         }
     }
     figures
+}
+
+/// A question of the layout test: what is asked, the table, the type, the offset and the usage.
+#[cfg(feature = "library-supports")]
+type Question = (&'static str, String, u32, u32, String);
+
+#[cfg(feature = "library-supports")]
+fn questions() -> Vec<Question> {
+    let fields = |n: u32| (0..n).map(|i| format!("{}:0", i * 4)).collect::<Vec<_>>().join(" ");
+    let leaves = |n: u32| (0..n).map(|i| format!("{}:D4,0", i * 4)).collect::<Vec<_>>().join(" ");
+    let nested = "scalar 4; fields 8 {0:0 4:0}; fields 16 {0:1 8:1}; fields 32 {0:2 16:2}; fields 64 {0:3 32:3}";
+    vec![
+        (
+            "a struct of 8 fields, each used",
+            format!("scalar 4; fields 32 {{{}}}", fields(8)),
+            1,
+            0,
+            format!("O32[{}]", leaves(8)),
+        ),
+        (
+            "an array of vectors",
+            "scalar 4; elements 16 (4, 0, 4); elements 256 (16, 1, 16)".into(),
+            2,
+            0,
+            "A256,16,D16,1".into(),
+        ),
+        ("structs nested 4 deep, one leaf", nested.into(), 4, 60, "D4,0".into()),
+        (
+            "a record of 64 fields, the last",
+            format!("scalar 4; fields 256 {{{}}}", fields(64)),
+            1,
+            252,
+            "D4,0".into(),
+        ),
+        (
+            "a record of 64 fields, each used",
+            format!("scalar 4; fields 256 {{{}}}", fields(64)),
+            1,
+            0,
+            format!("O256[{}]", leaves(64)),
+        ),
+    ]
+}
+
+/// The layout test: our call from bytes to the answer, the reference from values to its own types and asked, and asked alone.
+#[cfg(feature = "library-supports")]
+pub fn supporting() -> String {
+    let mut lines = vec![
+        "| question | call, from bytes | reference, from values | ratio | reference, asked alone |"
+            .to_owned(),
+        "|---|---|---|---|---|".to_owned(),
+    ];
+    for (what, table, ty, offset, usage) in questions() {
+        let (table, usage) = (notation::table(&table), notation::usage(&usage));
+        let call = Call {
+            kind: CallKind::Supports,
+            table: write_table(&table),
+            ty,
+            offset,
+            ..sound(write_memory(&usage))
+        };
+        let times = 2_000;
+        let ours = median(|| time(&call, times));
+        let whole = median(|| time_supports(&table, ty, offset, &usage, times)[0]);
+        let alone = median(|| time_supports(&table, ty, offset, &usage, times)[1]);
+        let ratio = ours.as_secs_f64() / whole.as_secs_f64();
+        lines.push(format!(
+            "| {what} | {:.1?} | {:.1?} | {ratio:.2} | {:.1?} |",
+            ours / times,
+            whole / times,
+            alone / times
+        ));
+    }
+    lines.join("\n")
+}
+
+#[cfg(feature = "library-supports")]
+fn median(run: impl Fn() -> Duration) -> Duration {
+    let mut runs: Vec<Duration> = (0..RUNS).map(|_| run()).collect();
+    runs.sort_unstable();
+    runs[RUNS / 2]
 }
 
 /// The figures as a table in Markdown.

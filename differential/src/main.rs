@@ -79,6 +79,8 @@ fn run() -> Ended {
 fn bench_reading() -> Ended {
     use differential::bench::{deep, reading, table};
     println!("{}\n\n{}", table(&reading()), table(&deep()));
+    #[cfg(feature = "library-supports")]
+    println!("\n{}", differential::bench::supporting());
     Ok("bench: medians of 21 runs; deep streams once".into())
 }
 
