@@ -23,9 +23,12 @@ pub struct Figure {
     pub time: Duration,
 }
 
+/// A shape's name, and a usage of that shape with so many nodes.
+type Shape = (&'static str, fn(usize) -> Usage);
+
 /// Usable streams of 8, 64 and 512 nodes in four shapes.
 pub fn reading() -> Vec<Figure> {
-    let shapes: [(&str, fn(usize) -> Usage); 4] = [
+    let shapes: [Shape; 4] = [
         ("flat map", flat),
         ("maps of seven", two_levels),
         ("nested arrays", arrays),
