@@ -1,3 +1,4 @@
 pub mod Pairs
 pub mod Loop
 pub mod Merging
+pub mod Sanity

@@ -18,7 +18,7 @@ use Rattle.records.specs.Usages.{At}
 use Rattle.states.specs.Calls.{Known, Two}
 use Rattle.support.specs.Answers.{Answers}
 use Rattle.support.specs.declared.Asked.{Asked}
-use Rattle.support.specs.declared.Asked.the-variants.{No, Yes, Handle, Failed}
+use Rattle.support.specs.declared.Asked.the-variants.{No}
 use Rattle.leaf.specs.Leaves.{TypeAt, typeIf, keptOf, isNo, decided, Keeps}
 use Rattle.leaf.specs.declared.Kept.{Kept}
 use Rattle.leaf.specs.declared.Conflict.the-variants.{Clear, Types}
@@ -36,10 +36,10 @@ abbrev differing : ℕ → Kept
 differing ty = record { ty = ty; conflict = Types }
 
 says : (a : Asked) → isNo a ≡ false → a ≡ No → ⊥
-says No e q = let z : true ≡ false = e in let y : _≡_ {A = ℕ} 0 1 = cc in omega arith
-says Yes e q = let y : _≡_ {A = ℕ} 0 1 = cc in omega arith
-says Handle e q = let y : _≡_ {A = ℕ} 0 1 = cc in omega arith
-says Failed e q = let y : _≡_ {A = ℕ} 0 1 = cc in omega arith
+says a e q =
+    let said : isNo a ≡ true = ap isNo q in
+    let z : _≡_ {A = ℕ} 0 1 = cc in
+    omega arith
 
 -- a's type is ty, as its record says
 module _ (table places s : List ℕ) (na d nb ty : ℕ) (here : ty ≡ argumentIn s 0) where

@@ -34,10 +34,11 @@ fn size_refusal(a: MaxSize, d: u32, b: MaxSize) -> u32
             MaxSize::Dynamic => 8,
             MaxSize::Fixed(n) => {
                 let e = d as u64 + n as u64;
+                let own = m as u64;
                 if MAX32 < e {
                     return 9;
                 }
-                if (m as u64) < e {
+                if own < e {
                     return 8;
                 }
                 0
@@ -61,14 +62,14 @@ fn begin_into(
     requires { ⌜ Plain (commandIn (now s) na) d ⌝ }
     ensures { λ r. ⌜ Begins (now (table .entry)) (now (places .entry)) (now (s .entry)) na d nb (now (rep .entry)) at (now (s .exit)) (now (rep .exit)) r ⌝ }
 {
-    let kind = command(s, 0);
-    if kind == 0 {
+    let receiver = command(s, 0);
+    if receiver == 0 {
         return begin_unused(s, na, nb, at);
     }
-    if kind == 3 {
+    if receiver == 3 {
         return begin_join(s, na, d, nb, rep, at);
     }
-    if kind == 4 {
+    if receiver == 4 {
         return begin_array(s, na, d, nb, rep, at);
     }
     begin_leaf(table, places, s, na, d, nb, rep, at)
@@ -88,11 +89,11 @@ fn begin_with(
     requires { ⌜ Ready (now table) (now places) (now s) na nb ⌝ }
     ensures { λ r. ⌜ Begins (now (table .entry)) (now (places .entry)) (now (s .entry)) na d nb (now (rep .entry)) at (now (s .exit)) (now (rep .exit)) r ⌝ }
 {
-    let kind = command(s, na);
-    if kind == 0 {
+    let placed = command(s, na);
+    if placed == 0 {
         return State::finished(na, 1, at);
     }
-    if kind == 3 {
+    if placed == 3 {
         if d == 0 {
             return begin_entries(s, na, nb, rep, at);
         }

@@ -4,8 +4,8 @@ use Prim.Native.Nat.{ℕ, _+_, _*_, _^_, _<_, _≤_}
 use mathlib.Core.Path.{_≡_, refl}
 use native.Mathlib.Omega.{arith}
 use native.Mathlib.Nat.{mul-le-mul}
-use Rattle.definitions.specs.Usage.{Size, Usage, Entries, none, entry, nodes, nodesIn, _<+>_}
-use Rattle.definitions.specs.Inner.Pairs.{pairs, pairsIn}
+use Rattle.definitions.specs.Usage.{Size, Usage, Entries, none, entry, nodes, _<+>_}
+use Rattle.definitions.specs.Inner.Pairs.{pairs}
 use Rattle.definitions.specs.Table.{Setting}
 use Rattle.definitions.specs.Place.{Result, refused, done, place}
 use Rattle.definitions.proofs.Nodes.{append-nodes}
@@ -23,7 +23,7 @@ pub spare-last : (z : Size) (low mid high init : Entries) (d d′ o n : ℕ) (u 
     → spare (joins z low mid high d) n ≡ pairs u + n * nodes u + spare (joins z low init high d′) (n + nodes u)
 spare-last z low mid high init d d′ o n u e = rw e (simp (append-nodes, append-pairs) (omega arith))
 
--- so its report is short
+-- the whole of a placing: its report is short
 pub place-short : (setting : Setting) (a : Usage) (d : ℕ) (b : Usage) (at : ℕ) → nodes a + nodes b ≤ 65536 → at ≤ 2 ^ 62 → Short at (place setting a d b)
 place-short setting a d b at le low = go (place setting a d b) refl
   where

@@ -19,13 +19,13 @@ returns : tie.Need-returns
 returns c = search (keeps-equal, needs)
 
 ask-requires : tie.Need-ask-requires
-ask-requires c κs = search (askable-right, needs)
+ask-requires c κs = search (askable-right, askable-left, needs)
 
 is-no-requires : tie.Need-is-no-requires
 is-no-requires c κs = search needs
 
 ask-requires-2 : tie.Need-ask-requires-2
-ask-requires-2 c κs = search (askable-left, needs)
+ask-requires-2 c κs = search (askable-right, askable-left, needs)
 
 decide-requires : tie.Need-decide-requires
 decide-requires c κs = search needs
@@ -40,7 +40,7 @@ returns-3 : tie.Need-returns-3
 returns-3 c = search (keeps-first, needs)
 
 ask-requires-3 : tie.Need-ask-requires-3
-ask-requires-3 c κs = search (askable-right, needs)
+ask-requires-3 c κs = search (askable-right, askable-left, needs)
 
 decide-requires-3 : tie.Need-decide-requires-3
 decide-requires-3 c κs = search needs

@@ -23,11 +23,11 @@ cast-e c = search needs
 add-e : tie.Need-add-e
 add-e c = search needs
 
+cast-own : tie.Need-cast-own
+cast-own c = search needs
+
 returns : tie.Need-returns
 returns c = search (size-past, needs)
-
-cast-if2 : tie.Need-cast-if2
-cast-if2 c = search needs
 
 returns-2 : tie.Need-returns-2
 returns-2 c = search (size-larger, needs)
@@ -51,8 +51,8 @@ size-refusal-spec =
     enum-known-b
     cast-e
     add-e
+    cast-own
     returns
-    cast-if2
     returns-2
     returns-3
     returns-4
