@@ -110,16 +110,15 @@ fn slice(text: &str, marker: &str, file: &str) -> String {
     item
 }
 
-/// Links the static library `exports` if one of its calls is wanted.
+/// Links the static library `exports` if it is wanted.
 fn link_library() {
     println!("cargo::rerun-if-env-changed=PAPERSLOE_LIB_DIR");
-    let wanted = env::vars().any(|(name, _)| name.starts_with("CARGO_FEATURE_LIBRARY"));
-    if !wanted {
+    if env::var_os("CARGO_FEATURE_LIBRARY").is_none() {
         return;
     }
     let Ok(folder) = env::var("PAPERSLOE_LIB_DIR") else {
         fail(
-            "a library feature is on: set PAPERSLOE_LIB_DIR to the folder of the static library `exports`",
+            "the feature library is on: set PAPERSLOE_LIB_DIR to the folder of the static library `exports`",
         )
     };
     println!("cargo::rerun-if-changed={folder}/libexports.a");

@@ -6,8 +6,7 @@ use crate::notation;
 use crate::reading::calls::{MOST_NODES, WORK_AREA};
 use crate::reading::streams::{ARRAY, MAP, UNUSED, write_memory};
 use crate::reading::tables::write_table;
-#[cfg(feature = "library-supports")]
-use crate::reference::time_supports;
+use crate::reference::timing::time_supports;
 use crate::side::{Buffer, Call, CallKind};
 use crate::usage::{Entry, Kind, Size, Usage};
 use std::time::Duration;
@@ -31,8 +30,8 @@ pub fn reading() -> Vec<Figure> {
     let shapes: [Shape; 4] = [
         ("flat map", flat),
         ("maps of seven", two_levels),
-        ("nested arrays", arrays),
-        ("nested maps", maps),
+        ("nested arrays", nested_arrays),
+        ("nested maps", nested_maps),
     ];
     let mut figures = Vec::new();
     for (shape, usage) in shapes {
@@ -72,10 +71,8 @@ pub fn deep() -> Vec<Figure> {
 }
 
 /// A question of the layout test: what is asked, the table, the type, the offset and the usage.
-#[cfg(feature = "library-supports")]
 type Question = (&'static str, String, u32, u32, String);
 
-#[cfg(feature = "library-supports")]
 fn questions() -> Vec<Question> {
     let fields = |n: u32| (0..n).map(|i| format!("{}:0", i * 4)).collect::<Vec<_>>().join(" ");
     let leaves = |n: u32| (0..n).map(|i| format!("{}:D4,0", i * 4)).collect::<Vec<_>>().join(" ");
@@ -114,7 +111,6 @@ fn questions() -> Vec<Question> {
 }
 
 /// The layout test: our call from bytes to the answer, the reference from values to its own types and asked, and asked alone.
-#[cfg(feature = "library-supports")]
 pub fn supporting() -> String {
     let mut lines = vec![
         "| question | call, from bytes | reference, from values | ratio | reference, asked alone |"
@@ -145,7 +141,104 @@ pub fn supporting() -> String {
     lines.join("\n")
 }
 
-#[cfg(feature = "library-supports")]
+/// Lists that are merged, each with a name: two nodes are for the call merge, more for the call fold.
+type Lists = Vec<(&'static str, Vec<Usage>)>;
+
+/// Pairs for the call merge.
+pub fn pairs() -> Lists {
+    let at = |offsets: &mut dyn Iterator<Item = u32>, size: &str| {
+        let leaves: Vec<String> = offsets.map(|o| format!("{o}:D4,0")).collect();
+        notation::usage(&format!("O{size}[{}]", leaves.join(" ")))
+    };
+    let strict = |size: u32| notation::usage(&format!("O{size}[0:S4,1 4:S4,1 8:S4,1]"));
+    let maps = |shift: u32| {
+        let inner = |i: u32| {
+            let leaves: Vec<String> = (0..15).map(|k| format!("{}:D4,0", k * 8 + shift)).collect();
+            format!("{}:O120[{}]", i * 120, leaves.join(" "))
+        };
+        let all: Vec<String> = (0..15).map(inner).collect();
+        notation::usage(&format!("O1800[{}]", all.join(" ")))
+    };
+    vec![
+        ("two equal leaves", vec![leaf(), leaf()]),
+        (
+            "two maps of 3, disjoint",
+            vec![at(&mut (0..3).map(|i| i * 8), "24"), at(&mut (0..3).map(|i| i * 8 + 4), "24")],
+        ),
+        ("two maps of 3, same offsets", vec![flat(4), flat(4)]),
+        ("two maps of 3, all conflicting", vec![strict(12), at(&mut (0..3).map(|i| i * 4), "12")]),
+        (
+            "two flat maps of 31, interleaved",
+            vec![at(&mut (0..31).map(|i| i * 8), "*"), at(&mut (0..31).map(|i| i * 8 + 4), "*")],
+        ),
+        (
+            "two flat maps of 250, interleaved",
+            vec![at(&mut (0..250).map(|i| i * 8), "*"), at(&mut (0..250).map(|i| i * 8 + 4), "*")],
+        ),
+        ("two flat maps of 250, same offsets", vec![flat(251), flat(251)]),
+        ("nested arrays, depth 100", vec![nested_arrays(101), nested_arrays(101)]),
+        ("maps of maps, 15 by 15, same offsets", vec![maps(0), maps(0)]),
+        ("maps of maps, 15 by 15, interleaved", vec![maps(0), maps(4)]),
+    ]
+}
+
+/// Lists for the call fold.
+pub fn lists() -> Lists {
+    let one = |size: u32, i: u32| notation::usage(&format!("O{size}[{}:D4,0]", i * 4));
+    let ones =
+        |larger: u32| (0..255).map(|i| one(1020 + if i == 0 { larger } else { 0 }, i)).collect();
+    let then_leaves = |first: Usage, n: usize| {
+        let mut nodes = vec![first];
+        nodes.extend((0..n).map(|_| leaf()));
+        nodes
+    };
+    vec![
+        ("255 one-leaf maps of equal size", ones(0)),
+        ("the same with a larger first map", ones(4)),
+        ("a flat map of 10 and 500 leaves", then_leaves(flat(11), 500)),
+        ("a chain of 255 maps and 253 leaves", then_leaves(nested_maps(256), 253)),
+    ]
+}
+
+/// A call from bytes to bytes beside the reference, which decodes the same streams, merges, encodes its answer and drops all; and
+/// the reference's `merge_mem` alone.
+pub fn merging(kind: CallKind, lists: &Lists) -> String {
+    use crate::reading::streams::write_list;
+    use crate::reference::timing::time_fold;
+    let table = notation::table("scalar 4; scalar 4");
+    let mut lines = vec![
+        "| merged | nodes | pairings | ours | reference | ratio | `merge_mem` alone |".to_owned(),
+        "|---|---|---|---|---|---|---|".to_owned(),
+    ];
+    for (what, nodes) in lists {
+        let list = write_list(nodes);
+        let (first, second) = match kind {
+            CallKind::Merge => (write_memory(&nodes[0]), write_memory(&nodes[1])),
+            _ => (list.clone(), Vec::new()),
+        };
+        let output = Buffer { length: list.len(), fill: 0 };
+        let report = Buffer { length: 1024, fill: 0 };
+        let call =
+            Call { kind, table: write_table(&table), second, output, report, ..sound(first) };
+        let answer = crate::side::Side::answer(&crate::library::Library, &call);
+        assert_eq!(answer.number, 0, "{what} is answered");
+        let count: usize = nodes.iter().map(Usage::nodes).sum();
+        let times = (20_000 / (count as u32 + answer.pairings as u32)).max(1);
+        let ours = median(|| time(&call, times));
+        let whole = median(|| time_fold(&table, &list, times)[0]);
+        let alone = median(|| time_fold(&table, &list, times)[1]);
+        let ratio = ours.as_secs_f64() / whole.as_secs_f64();
+        lines.push(format!(
+            "| {what} | {count} | {} | {:.2?} | {:.2?} | {ratio:.2} | {:.2?} |",
+            answer.pairings,
+            ours / times,
+            whole / times,
+            alone / times
+        ));
+    }
+    lines.join("\n")
+}
+
 fn median(run: impl Fn() -> Duration) -> Duration {
     let mut runs: Vec<Duration> = (0..RUNS).map(|_| run()).collect();
     runs.sort_unstable();
@@ -209,13 +302,15 @@ fn two_levels(nodes: usize) -> Usage {
     map(Size::Dynamic, all.map(inner), 32)
 }
 
-fn arrays(nodes: usize) -> Usage {
+/// So many nodes, a leaf inside of arrays.
+pub fn nested_arrays(nodes: usize) -> Usage {
     (1..nodes).fold(leaf(), |element, _| Usage {
         size: Size::Fixed(4),
         kind: Kind::Array { stride: 4, element: Box::new(element) },
     })
 }
 
-fn maps(nodes: usize) -> Usage {
+/// So many nodes, a leaf inside of maps of one entry.
+pub fn nested_maps(nodes: usize) -> Usage {
     (1..nodes).fold(leaf(), |node, _| map(Size::Fixed(4), [node].into_iter(), 4))
 }

@@ -1,9 +1,10 @@
 //! The published Rust as judge, call by call. README.md says what this is and how it is run.
 
-#[cfg(feature = "library-sound")]
+#[cfg(feature = "library")]
 pub mod bench;
 pub mod compare;
 pub mod generate;
+#[cfg(feature = "library")]
 pub mod library;
 pub mod notation;
 pub mod power;
@@ -13,5 +14,7 @@ pub mod reference;
 pub mod rows;
 pub mod shrink;
 pub mod side;
+#[cfg(feature = "library")]
+pub mod stack;
 pub mod theorems;
 pub mod usage;

@@ -1,16 +1,12 @@
 //! The port as a side: the calls of the static library `exports`, through its C interface.
-//!
-//! The library lands call by call. A call that is not linked is not there to be asked.
 
 use crate::side::{Answer, Call, CallKind, Side};
 use std::hint::black_box;
 use std::time::{Duration, Instant};
 
-/// C declarations: a slice is a pointer and a length. Each is linked by a feature of its own.
+/// C declarations: a slice is a pointer and a length.
 #[rustfmt::skip]
 mod linked {
-    #![allow(dead_code)]
-
     /// A slice that is read.
     type Bytes = *const u8;
     /// A slice that is written.
@@ -19,37 +15,31 @@ mod linked {
     type Words = *mut [u64; 5];
 
     unsafe extern "C" {
-        #[cfg(feature = "library-receiver")]
         pub fn qptr_receiver(first: Bytes, first_len: usize, second: Bytes, second_len: usize) -> u32;
 
-        #[cfg(feature = "library-supports")]
         pub fn qptr_supports(
             table: Bytes, table_len: usize, work: BytesMut, work_len: usize, ty: u32, offset: u32,
             stream: Bytes, stream_len: usize, answer: Words,
         );
 
-        #[cfg(feature = "library-place")]
         pub fn qptr_place(
             table: Bytes, table_len: usize, work: BytesMut, work_len: usize,
             first: Bytes, first_len: usize, offset: u32, second: Bytes, second_len: usize,
             output: BytesMut, output_len: usize, report: BytesMut, report_len: usize, answer: Words,
         );
 
-        #[cfg(feature = "library-merge")]
         pub fn qptr_merge(
             table: Bytes, table_len: usize, work: BytesMut, work_len: usize,
             first: Bytes, first_len: usize, second: Bytes, second_len: usize,
             output: BytesMut, output_len: usize, report: BytesMut, report_len: usize, answer: Words,
         );
 
-        #[cfg(feature = "library-fold")]
         pub fn qptr_fold(
             table: Bytes, table_len: usize, work: BytesMut, work_len: usize,
             list: Bytes, list_len: usize,
             output: BytesMut, output_len: usize, report: BytesMut, report_len: usize, answer: Words,
         );
 
-        #[cfg(feature = "library-sound")]
         pub fn qptr_sound(
             table: Bytes, table_len: usize, work: BytesMut, work_len: usize,
             stream: Bytes, stream_len: usize, answer: Words,
@@ -64,17 +54,6 @@ pub struct Library;
 impl Side for Library {
     fn name(&self) -> String {
         "library".into()
-    }
-
-    fn has(&self, kind: CallKind) -> bool {
-        match kind {
-            CallKind::Receiver => cfg!(feature = "library-receiver"),
-            CallKind::Supports => cfg!(feature = "library-supports"),
-            CallKind::Place => cfg!(feature = "library-place"),
-            CallKind::Merge => cfg!(feature = "library-merge"),
-            CallKind::Fold => cfg!(feature = "library-fold"),
-            CallKind::Sound => cfg!(feature = "library-sound"),
-        }
     }
 
     fn answer(&self, call: &Call) -> Answer {
@@ -108,28 +87,18 @@ pub fn time(call: &Call, times: u32) -> Duration {
     start.elapsed()
 }
 
-/// Asks the call, if it is linked.
 fn ask(call: &Call, lent: &mut Lent) {
-    match (call.kind, lent) {
-        #[cfg(feature = "library-receiver")]
-        (CallKind::Receiver, lent) => receiver(call, lent),
-        #[cfg(feature = "library-supports")]
-        (CallKind::Supports, lent) => supports(call, lent),
-        #[cfg(feature = "library-place")]
-        (CallKind::Place, lent) => place(call, lent),
-        #[cfg(feature = "library-merge")]
-        (CallKind::Merge, lent) => merge(call, lent),
-        #[cfg(feature = "library-fold")]
-        (CallKind::Fold, lent) => fold(call, lent),
-        #[cfg(feature = "library-sound")]
-        (CallKind::Sound, lent) => sound(call, lent),
-        #[allow(unreachable_patterns)]
-        (kind, _) => panic!("the call {kind} is not linked"),
+    match call.kind {
+        CallKind::Receiver => receiver(call, lent),
+        CallKind::Supports => supports(call, lent),
+        CallKind::Place => place(call, lent),
+        CallKind::Merge => merge(call, lent),
+        CallKind::Fold => fold(call, lent),
+        CallKind::Sound => sound(call, lent),
     }
 }
 
 /// What is lent to a call to be written.
-#[allow(dead_code)]
 struct Lent {
     work: Vec<u8>,
     output: Vec<u8>,
@@ -140,7 +109,6 @@ struct Lent {
 // SAFETY, for all six: every pointer comes with the length of the slice that it points to; slices
 // that are written are lent by `&mut` and do not overlap; `words` has the five that are filled in.
 
-#[cfg(feature = "library-receiver")]
 fn receiver(Call { first, second, .. }: &Call, lent: &mut Lent) {
     let part = unsafe {
         linked::qptr_receiver(first.as_ptr(), first.len(), second.as_ptr(), second.len())
@@ -148,7 +116,6 @@ fn receiver(Call { first, second, .. }: &Call, lent: &mut Lent) {
     lent.words = [u64::from(part), 0, 0, 0, 0];
 }
 
-#[cfg(feature = "library-supports")]
 #[rustfmt::skip]
 fn supports(call: &Call, Lent { work, words, .. }: &mut Lent) {
     let Call { table, first, .. } = call;
@@ -160,7 +127,6 @@ fn supports(call: &Call, Lent { work, words, .. }: &mut Lent) {
     }
 }
 
-#[cfg(feature = "library-place")]
 #[rustfmt::skip]
 fn place(call: &Call, Lent { work, output, report, words }: &mut Lent) {
     let Call { table, first, second, .. } = call;
@@ -173,7 +139,6 @@ fn place(call: &Call, Lent { work, output, report, words }: &mut Lent) {
     }
 }
 
-#[cfg(feature = "library-merge")]
 #[rustfmt::skip]
 fn merge(call: &Call, Lent { work, output, report, words }: &mut Lent) {
     let Call { table, first, second, .. } = call;
@@ -186,7 +151,6 @@ fn merge(call: &Call, Lent { work, output, report, words }: &mut Lent) {
     }
 }
 
-#[cfg(feature = "library-fold")]
 #[rustfmt::skip]
 fn fold(call: &Call, Lent { work, output, report, words }: &mut Lent) {
     let Call { table, first, .. } = call;
@@ -199,7 +163,6 @@ fn fold(call: &Call, Lent { work, output, report, words }: &mut Lent) {
     }
 }
 
-#[cfg(feature = "library-sound")]
 #[rustfmt::skip]
 fn sound(call: &Call, Lent { work, words, .. }: &mut Lent) {
     let Call { table, first, .. } = call;

@@ -2,7 +2,6 @@
 
 use differential::compare::{Category, compare, compare_one};
 use differential::generate::Source;
-use differential::library::Library;
 use differential::power::{generated, power};
 use differential::reading::Reading;
 use differential::record::{Recorded, check_coverage, from_bytes, recorded, to_bytes};
@@ -10,6 +9,8 @@ use differential::reference::Reference;
 use differential::rows::{Row, bench, directed, limits, printed_example};
 use differential::side::{CallKind, Side};
 use differential::theorems::{Theorems, small_calls};
+#[cfg(feature = "library")]
+use differential::{bench as port, library::Library, stack};
 use std::path::Path;
 use std::process::ExitCode;
 use std::time::Instant;
@@ -19,7 +20,7 @@ const USAGE: &str = "\
 rows                             all worked rows: document 01, reference and reading agree
 compare [options]                generated calls to two sides
   --sides reference,reading      two of reference, reading, library
-  --calls supports,place,..      which calls (default: all that both sides have)
+  --calls supports,place,..      which calls (default: all)
   --sources sound,unsound,..     which inputs (default: sound,unsound,large,deep,damaged)
   --count 10000                  calls in each category (fewer large and deep ones)
   --seed 1
@@ -30,7 +31,8 @@ theorems DIR                     write recorded and generated calls as theorems 
   --count 1500                   generated calls in all
   --seed 3
 power                            each deliberate fault must be noticed
-bench                            how long the port takes to read (needs the library's sound)
+bench                            how long the port takes, beside the reference (needs the library)
+stack                            how much stack the deepest calls need (needs the library)
 ci [PATH]                        all of it, bounded (PATH: the recorded answers)";
 
 /// Where the recorded answers are looked for if no path is given.
@@ -68,25 +70,37 @@ fn run() -> Ended {
         ["replay", path, side, options @ ..] => replay(path, side, &Options::read(options)?),
         ["theorems", folder, options @ ..] => theorems(folder, options),
         ["power"] => check_power(&derived()?),
-        ["bench"] => bench_reading(),
+        #[cfg(feature = "library")]
+        ["bench"] => bench_port(),
+        #[cfg(feature = "library")]
+        ["stack"] => stack_table(),
+        #[cfg(feature = "library")]
+        ["stack-of", name, kib] => stack::run(name, kib),
+        #[cfg(not(feature = "library"))]
+        ["bench" | "stack"] => Err(NOT_LINKED.into()),
         ["ci"] => ci(RECORDED),
         ["ci", path] => ci(path),
         _ => Err(USAGE.into()),
     }
 }
 
-#[cfg(feature = "library-sound")]
-fn bench_reading() -> Ended {
-    use differential::bench::{deep, reading, table};
-    println!("{}\n\n{}", table(&reading()), table(&deep()));
-    #[cfg(feature = "library-supports")]
-    println!("\n{}", differential::bench::supporting());
+#[cfg(not(feature = "library"))]
+const NOT_LINKED: &str =
+    "the port is not linked: README.md, \"The port\", says how to build with it";
+
+#[cfg(feature = "library")]
+fn bench_port() -> Ended {
+    println!("{}\n\n{}", port::table(&port::reading()), port::table(&port::deep()));
+    println!("\n{}", port::supporting());
+    println!("\n{}", port::merging(CallKind::Merge, &port::pairs()));
+    println!("\n{}", port::merging(CallKind::Fold, &port::lists()));
     Ok("bench: medians of 21 runs; deep streams once".into())
 }
 
-#[cfg(not(feature = "library-sound"))]
-fn bench_reading() -> Ended {
-    Err("bench: build with the library (README.md, \"The port\")".into())
+#[cfg(feature = "library")]
+fn stack_table() -> Ended {
+    println!("{}", stack::table()?);
+    Ok("stack: the smallest that suffices, in steps of 8 KiB".into())
 }
 
 /// The options of a comparison.
@@ -136,18 +150,9 @@ impl Options {
         Ok(self)
     }
 
-    /// The calls asked for; by default all that these sides have.
-    fn kinds(&self, sides: &[&dyn Side]) -> Result<Vec<CallKind>, String> {
-        let has = |kind: &CallKind| sides.iter().all(|side| side.has(*kind));
-        match &self.calls {
-            None => Ok(CallKind::ALL.into_iter().filter(has).collect()),
-            Some(kinds) => match kinds.iter().find(|kind| !has(kind)) {
-                Some(kind) => Err(format!(
-                    "the call {kind} is not linked: build with --features library-{kind}"
-                )),
-                None => Ok(kinds.clone()),
-            },
-        }
+    /// The calls asked for; by default all.
+    fn kinds(&self) -> Vec<CallKind> {
+        self.calls.clone().unwrap_or_else(|| CallKind::ALL.to_vec())
     }
 }
 
@@ -155,7 +160,10 @@ fn side(name: &str) -> Result<&'static dyn Side, String> {
     match name {
         "reference" => Ok(&Reference),
         "reading" => Ok(&READING),
+        #[cfg(feature = "library")]
         "library" => Ok(&Library),
+        #[cfg(not(feature = "library"))]
+        "library" => Err(NOT_LINKED.into()),
         _ => Err(format!("no side is named {name}")),
     }
 }
@@ -186,7 +194,7 @@ fn rows() -> Ended {
 fn compare_sides(options: &Options) -> Ended {
     let start = Instant::now();
     let mut calls = 0;
-    for kind in options.kinds(&options.sides)? {
+    for kind in options.kinds() {
         for &source in &options.sources {
             let category = Category { kind, source };
             let count = source.share(options.count);
@@ -236,7 +244,7 @@ fn check_against(path: &str, list: &[Recorded]) -> Ended {
 
 fn replay(path: &str, name: &str, options: &Options) -> Ended {
     let side = side(name)?;
-    let kinds = options.kinds(&[side])?;
+    let kinds = options.kinds();
     let mut replayed = 0;
     for Recorded { call, answer } in
         read_recorded(path)?.iter().filter(|recorded| kinds.contains(&recorded.call.kind))

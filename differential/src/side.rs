@@ -139,11 +139,5 @@ fn front(bytes: &[u8], length: u64) -> &[u8] {
 pub trait Side {
     fn name(&self) -> String;
 
-    /// Whether this side has the call at all; the library lands call by call.
-    fn has(&self, kind: CallKind) -> bool {
-        let _ = kind;
-        true
-    }
-
     fn answer(&self, call: &Call) -> Answer;
 }

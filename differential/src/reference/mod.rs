@@ -5,6 +5,7 @@ mod panics;
 #[allow(dead_code, clippy::all)]
 mod published;
 mod stand_ins;
+pub mod timing;
 mod translate;
 mod watch;
 
@@ -15,8 +16,6 @@ use crate::reading::{Merged, Outcome, Receiver};
 use crate::side::{Answer, Call, Side};
 use crate::usage::{Components, Entry, Kind, Layout, Record, Table, Top, Usage};
 use stand_ins::LayoutCache;
-use std::hint::black_box;
-use std::time::{Duration, Instant};
 use translate::{from_published, report_of, to_published, top_from_published, top_to_published};
 
 #[derive(Clone, Copy, Debug, Default)]
@@ -77,28 +76,6 @@ impl Rules for Reference {
         });
         Ok(Merged { usage: from_published(&folded?), report, pairings })
     }
-}
-
-/// How long so many questions take: from values to the published types and asked, and asked alone.
-pub fn time_supports(
-    table: &Table,
-    ty: u32,
-    offset: u32,
-    usage: &Usage,
-    times: u32,
-) -> [Duration; 2] {
-    let start = Instant::now();
-    for _ in 0..times {
-        black_box(Reference.supports(table, ty, offset, black_box(usage)));
-    }
-    let whole = start.elapsed();
-    let (cache, usage) = (LayoutCache::new(table), to_published(usage));
-    let start = Instant::now();
-    for _ in 0..times {
-        let layout = cache.concrete(ty);
-        black_box(published::supports_usage_at_offset(layout, offset, black_box(&usage)));
-    }
-    [whole, start.elapsed()]
 }
 
 /// A node of the same size and kind, whose contents tell which it was.

@@ -71,6 +71,15 @@ pub(super) fn merge_mem_at(
     caught(|| parts(UsageMerger { layout_cache }.merge_mem_at(a, b_offset_in_a, b)))
 }
 
+/// `merge_mem` with its panics left alone, for timing.
+pub(super) fn merge_mem_alone(
+    layout_cache: &LayoutCache<'_>,
+    a: QPtrMemUsage,
+    b: QPtrMemUsage,
+) -> WithConflict<QPtrMemUsage> {
+    parts(UsageMerger { layout_cache }.merge_mem(a, b))
+}
+
 pub(super) fn supports_usage_at_offset(
     layout: &MemTypeLayout,
     offset: u32,
