@@ -115,13 +115,22 @@ written {s} {s₁} {s₂} {s₃} {s₄} {s₅} {q} {c} {n} {t} {o} e₁ e₂ C e
       others = λ i ne. holds-move (E .others i ne) (holds-move (D .others i ne) (holds-move (C .others i ne) (holds-move (B .others i ne) (A .others i ne))));
     }
 
+pub worded : {s s₁ s₂ s₃ s₄ s₅ s₆ : List ℕ} {q c n f z t o : ℕ} → s₁ ≡ put s (q * 32) c → s₂ ≡ put s₁ (q * 32 + 4) n → s₃ ≡ put s₂ (q * 32 + 8) f → s₄ ≡ put s₃ (q * 32 + 12) z → s₅ ≡ put s₄ (q * 32 + 16) t → s₆ ≡ put s₅ (q * 32 + 20) o
+    → q * 32 + 32 ≤ length s → c < 4294967296 → n < 4294967296 → f < 4294967296 → z < 4294967296 → t < 4294967296 → o < 4294967296 → Written s s₆ q c n (sizeFrom f z) t o
+worded {s} {s₁} {s₂} {s₃} {s₄} {q} {c} {n} {f} {z} e₁ e₂ e₃ e₄ e₅ e₆ h fc fn ff fz ft fo =
+    let l₁ : length s₁ ≡ length s = length-stored s s₁ (q * 32) c e₁ in
+    let l₂ : length s₂ ≡ length s₁ = length-stored s₁ s₂ (q * 32 + 4) n e₂ in
+    let l₃ : length s₃ ≡ length s₂ = length-stored s₂ s₃ (q * 32 + 8) f e₃ in
+    let l₄ : length s₄ ≡ length s₃ = length-stored s₃ s₄ (q * 32 + 12) z e₄ in
+    written e₁ e₂ (sized s₂ s₃ s₄ q f z e₃ e₄ (omega arith) ff fz) e₅ e₆ h (omega arith) fc fn ft fo
+
 -- Two records
 
-pub swapped : {s s₁ s₂ : List ℕ} {i j c n : ℕ} {z : Size} {t o jc jn : ℕ} {jz : Size} {jt jo : ℕ} → i < j
-    → c ≡ commandIn s i → n ≡ countIn s i → z ≡ sizeIn s i → t ≡ argumentIn s i → o ≡ offsetIn s i
-    → jc ≡ commandIn s j → jn ≡ countIn s j → jz ≡ sizeIn s j → jt ≡ argumentIn s j → jo ≡ offsetIn s j
-    → Written s s₁ i jc jn jz jt jo → Written s₁ s₂ j c n z t o → Swapped s s₂ i j
-swapped {s} {s₁} {s₂} {i} lt ec en ez et eo ejc ejn ejz ejt ejo A B =
+pub swapped : {s s₁ s₂ : List ℕ} {i j c n f z t o jc jn jf jz jt jo : ℕ} → i < j
+    → c ≡ commandIn s i → n ≡ countIn s i → f ≡ word s (i * 32 + 8) → z ≡ word s (i * 32 + 12) → t ≡ argumentIn s i → o ≡ offsetIn s i
+    → jc ≡ commandIn s j → jn ≡ countIn s j → jf ≡ word s (j * 32 + 8) → jz ≡ word s (j * 32 + 12) → jt ≡ argumentIn s j → jo ≡ offsetIn s j
+    → Written s s₁ i jc jn (sizeFrom jf jz) jt jo → Written s₁ s₂ j c n (sizeFrom f z) t o → Swapped s s₂ i j
+swapped {s} {s₁} {s₂} {i} lt ec en ef ez et eo ejc ejn ejf ejz ejt ejo A B =
     let kept : Same s₁ i s₂ i = B .others i (omega arith) in
     record {
       first = record { command = cc; nodes = cc; size = cc; argument = cc; offset = cc };

@@ -4,7 +4,7 @@ ghost use Prim.Native.Nat.{_+_, _*_, _<_, _≤_};
 ghost use lib.ListN.{length};
 ghost use Rattle.qptr.specs.Values.{sizeOf};
 ghost use Rattle.records.specs.Words.{word, put, Copied};
-ghost use Rattle.records.specs.Records.{commandIn, countIn, sizeIn, argumentIn, offsetIn, Moved, Exchanged, Sized, Counted, Shifted, Typed, Written, Swapped, Reversed};
+ghost use Rattle.records.specs.Records.{sizeFrom, commandIn, countIn, sizeIn, argumentIn, offsetIn, Moved, Exchanged, Sized, Counted, Shifted, Typed, Written, Swapped, Reversed};
 use qptr::MaxSize;
 
 // The bytes of a record.
@@ -150,23 +150,38 @@ pub fn move_down(s: &mut [u8], to: usize, from: usize, n: usize)
     copy_down(s, to * 32, from * 32, n * 32);
 }
 
-// Records i and j change places.
+// Record q is these six words: a size is its flag and its number.
+fn put_words(s: &mut [u8], q: usize, c: u32, n: u32, f: u32, z: u32, t: u32, o: u32)
+    requires { ⌜ q * 32 + 32 ≤ length (now s) ⌝ }
+    ensures { λ r. ⌜ Written (now (s .entry)) (now (s .exit)) q c n (sizeFrom f z) t o ⌝ }
+{
+    put32(s, q * 32, c);
+    put32(s, q * 32 + 4, n);
+    put32(s, q * 32 + 8, f);
+    put32(s, q * 32 + 12, z);
+    put32(s, q * 32 + 16, t);
+    put32(s, q * 32 + 20, o);
+}
+
+// Records i and j change places, word by word: a size is not looked at.
 fn swap(s: &mut [u8], i: usize, j: usize)
     requires { ⌜ (i < j) × (j * 32 + 32 ≤ length (now s)) ⌝ }
     ensures { λ r. ⌜ Swapped (now (s .entry)) (now (s .exit)) i j ⌝ }
 {
     let c = command(s, i);
     let n = get32(s, i * 32 + 4);
-    let z = max_size(s, i);
+    let f = get32(s, i * 32 + 8);
+    let z = get32(s, i * 32 + 12);
     let t = argument(s, i);
     let o = offset(s, i);
     let jc = command(s, j);
     let jn = get32(s, j * 32 + 4);
-    let jz = max_size(s, j);
+    let jf = get32(s, j * 32 + 8);
+    let jz = get32(s, j * 32 + 12);
     let jt = argument(s, j);
     let jo = offset(s, j);
-    put_record(s, i, jc, jn, jz, jt, jo);
-    put_record(s, j, c, n, z, t, o);
+    put_words(s, i, jc, jn, jf, jz, jt, jo);
+    put_words(s, j, c, n, f, z, t, o);
 }
 
 // The records from f to t stand in the other order.

@@ -18,8 +18,23 @@ add-get32 c = search needs
 get32-requires : tie.Need-get32-requires
 get32-requires c κs = search needs
 
-max-size-requires : tie.Need-max-size-requires
-max-size-requires c κs = search needs
+mul-get32-2 : tie.Need-mul-get32-2
+mul-get32-2 c = search needs
+
+add-get32-2 : tie.Need-add-get32-2
+add-get32-2 c = search needs
+
+get32-requires-2 : tie.Need-get32-requires-2
+get32-requires-2 c κs = search needs
+
+mul-get32-3 : tie.Need-mul-get32-3
+mul-get32-3 c = search needs
+
+add-get32-3 : tie.Need-add-get32-3
+add-get32-3 c = search needs
+
+get32-requires-3 : tie.Need-get32-requires-3
+get32-requires-3 c κs = search needs
 
 argument-requires : tie.Need-argument-requires
 argument-requires c κs = search needs
@@ -30,17 +45,32 @@ offset-requires c κs = search needs
 command-requires-2 : tie.Need-command-requires-2
 command-requires-2 c κs = search needs
 
-mul-get32-2 : tie.Need-mul-get32-2
-mul-get32-2 c = search needs
+mul-get32-4 : tie.Need-mul-get32-4
+mul-get32-4 c = search needs
 
-add-get32-2 : tie.Need-add-get32-2
-add-get32-2 c = search needs
+add-get32-4 : tie.Need-add-get32-4
+add-get32-4 c = search needs
 
-get32-requires-2 : tie.Need-get32-requires-2
-get32-requires-2 c κs = search needs
+get32-requires-4 : tie.Need-get32-requires-4
+get32-requires-4 c κs = search needs
 
-max-size-requires-2 : tie.Need-max-size-requires-2
-max-size-requires-2 c κs = search needs
+mul-get32-5 : tie.Need-mul-get32-5
+mul-get32-5 c = search needs
+
+add-get32-5 : tie.Need-add-get32-5
+add-get32-5 c = search needs
+
+get32-requires-5 : tie.Need-get32-requires-5
+get32-requires-5 c κs = search needs
+
+mul-get32-6 : tie.Need-mul-get32-6
+mul-get32-6 c = search needs
+
+add-get32-6 : tie.Need-add-get32-6
+add-get32-6 c = search needs
+
+get32-requires-6 : tie.Need-get32-requires-6
+get32-requires-6 c κs = search needs
 
 argument-requires-2 : tie.Need-argument-requires-2
 argument-requires-2 c κs = search needs
@@ -48,15 +78,15 @@ argument-requires-2 c κs = search needs
 offset-requires-2 : tie.Need-offset-requires-2
 offset-requires-2 c κs = search needs
 
-put-record-requires : tie.Need-put-record-requires
-put-record-requires c κs = search needs
+put-words-requires : tie.Need-put-words-requires
+put-words-requires c κs = search needs
 
-put-record-requires-2 : tie.Need-put-record-requires-2
-put-record-requires-2 c κs =
+put-words-requires-2 : tie.Need-put-words-requires-2
+put-words-requires-2 c κs =
     let w : _ = c .before .before .before in
-    let jc : _ = w .before .before .before .before .before .before .before .before .before .before in
-    let k : _ = jc .before .before .before .before .before .before .before .before .before .before in
-    omega (arith, w .put-record .kept .0, k .before .before .before .pre .1)
+    let jc : _ = w .before .before .before .before .before .before .before .before .before .before .before .before in
+    let k : _ = jc .before .before .before .before .before .before .before .before .before .before .before .before in
+    omega (arith, w .put-words .kept .0, k .before .before .before .pre .1)
 
 same-length : tie.Need-same-length
 same-length c = search needs
@@ -68,17 +98,19 @@ returns c =
     let jo : _ = w₁ .before .before in
     let jt : _ = jo .before .before in
     let jz : _ = jt .before .before in
-    let jn : _ = jz .before .before in
+    let jf : _ = jz .before .before in
+    let jn : _ = jf .before .before in
     let jc : _ = jn .before .before in
     let o : _ = jc .before .before in
     let t : _ = o .before .before in
     let z : _ = t .before .before in
-    let n : _ = z .before .before in
+    let f : _ = z .before .before in
+    let n : _ = f .before .before in
     let k : _ = n .before .before in
     swapped (k .before .before .before .pre .0)
-    (k .command .ensures) (n .get32 .ensures) (z .max-size .ensures) (t .argument .ensures) (o .offset .ensures)
-    (jc .command2 .ensures) (jn .get322 .ensures) (jz .max-size2 .ensures) (jt .argument2 .ensures) (jo .offset2 .ensures)
-    (w₁ .put-record .ensures) (w₂ .put-record2 .ensures)
+    (k .command .ensures) (n .get32 .ensures) (f .get322 .ensures) (z .get323 .ensures) (t .argument .ensures) (o .offset .ensures)
+    (jc .command2 .ensures) (jn .get324 .ensures) (jf .get325 .ensures) (jz .get326 .ensures) (jt .argument2 .ensures) (jo .offset2 .ensures)
+    (w₁ .put-words .ensures) (w₂ .put-words2 .ensures)
 
 pub swap-spec : {M : Type 1} → statement M
 swap-spec =
@@ -88,17 +120,27 @@ swap-spec =
     mul-get32
     add-get32
     get32-requires
-    max-size-requires
-    argument-requires
-    offset-requires
-    command-requires-2
     mul-get32-2
     add-get32-2
     get32-requires-2
-    max-size-requires-2
+    mul-get32-3
+    add-get32-3
+    get32-requires-3
+    argument-requires
+    offset-requires
+    command-requires-2
+    mul-get32-4
+    add-get32-4
+    get32-requires-4
+    mul-get32-5
+    add-get32-5
+    get32-requires-5
+    mul-get32-6
+    add-get32-6
+    get32-requires-6
     argument-requires-2
     offset-requires-2
-    put-record-requires
-    put-record-requires-2
+    put-words-requires
+    put-words-requires-2
     same-length
     returns)
