@@ -4,11 +4,11 @@ use Prim.Native.Nat.{ℕ, _<_, _≤_}
 use mathlib.Core.Path.{_≡_}
 use mathlib.Core.Bool.{Bool, true, false}
 use mathlib.Core.List.{List}
-use mathlib.Core.Option.{none as nothing}
+use mathlib.Core.Option.{none as nothing, some}
 use borrow.Author.Tests.{lt-ltb, le-ltb}
 use Rattle.definitions.specs.If.{if_then_else_}
 use Rattle.definitions.specs.Limits.{nodeLimit, workLimit}
-use Rattle.definitions.specs.Table.{Setting, tableOf}
+use Rattle.definitions.specs.Table.{Table, Setting, tableOf}
 use Rattle.definitions.specs.Place.{Result, refused}
 use Rattle.definitions.specs.Calls.{withTable, checked}
 use Rattle.calls.proofs.Tables.{Begun}
@@ -24,9 +24,12 @@ module _ {A : Type 0} (next : Setting → Result A) where
   unfolding if_then_else_
   bad-table work table h e = rw (le-ltb work workLimit h, e)
 
-  pub good-table : {table places : List ℕ} {work k : ℕ} (t : Begun table work places k) → withTable work table next ≡ next (record { table = t .table })
+  pub table-read : (work : ℕ) (table : List ℕ) {t : Table} → workLimit ≤ work → tableOf table ≡ some t → withTable work table next ≡ next (record { table = t })
   unfolding if_then_else_
-  good-table {work} t = rw (le-ltb work workLimit (t .enough), t .is)
+  table-read work table h e = rw (le-ltb work workLimit h, e)
+
+  pub good-table : {table places : List ℕ} {work k : ℕ} (t : Begun table work places k) → withTable work table next ≡ next (record { table = t .table })
+  good-table {table} {work} t = table-read work table (t .enough) (t .is)
 
 -- 5 and 7
 

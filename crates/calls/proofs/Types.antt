@@ -23,7 +23,7 @@ one-within a n = go (ltb a n) refl
     go true e = rw (le-leb (suc a) n (omega (arith, ltb-true a n e)))
     go false e = rw (lt-leb (suc a) n (omega (arith, ltb-false a n e)))
 
-both-within : (a b n : ℕ) → (leb a n && leb b n) ≡ leb (max a b) n
+pub both-within : (a b n : ℕ) → (leb a n && leb b n) ≡ leb (max a b) n
 both-within a b n = go (leb a n) refl (leb b n) refl
   where
     go : (p : Bool) → leb a n ≡ p → (q : Bool) → leb b n ≡ q → (p && q) ≡ leb (max a b) n

@@ -1,9 +1,10 @@
 -- The answers of calls as the numbers that a caller in C or Rust is given.
 -- Assumes nothing.
 use Prim.Native.Nat.{ℕ}
+use mathlib.Core.Path.{_≡_}
 use mathlib.Core.Bool.{Bool, true, false}
 use mathlib.Core.List.{List, [], _∷_}
-use Rattle.definitions.specs.Calls.{Answer}
+use Rattle.definitions.specs.Calls.{Answer, Written}
 use Rattle.calls.specs.declared.Received.{Received}
 use Rattle.calls.specs.declared.Received.the-variants.{Nobody, First, Second}
 
@@ -19,3 +20,9 @@ bit true = 1
 -- number, yes or no, usage length, report length, pairings
 abbrev pub numbersOf : Answer → List ℕ
 numbersOf a = a .number ∷ bit (a .yes) ∷ a .usage ∷ a .report ∷ a .pairings ∷ []
+
+-- what place, merge and fold leave: the numbers, and both buffers
+pub record Leaves (w : Written) (answer output report : List ℕ) : Type 0 where
+  pub numbers : answer ≡ numbersOf (w .answer)
+  pub usage : output ≡ w .output
+  pub reported : report ≡ w .report

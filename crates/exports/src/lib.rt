@@ -1,9 +1,9 @@
 // The calls for C and Rust. A slice is passed as a pointer and a length.
 ghost use mathlib.Core.Path.{_≡_};
 ghost use lib.ListN.{length};
-ghost use Rattle.definitions.specs.Calls.{receiverOf, soundCall, supportsCall};
+ghost use Rattle.definitions.specs.Calls.{receiverOf, soundCall, supportsCall, placeCall, mergeCall, foldCall};
 ghost use Rattle.calls.specs.Answers.{answerOf, receivedOf};
-ghost use Rattle.exports.specs.Numbers.{numberOf, bit, numbersOf};
+ghost use Rattle.exports.specs.Numbers.{numberOf, bit, numbersOf, Leaves};
 use calls::Answer;
 use calls::Received;
 
@@ -64,4 +64,52 @@ pub extern "C" fn qptr_supports(
     ensures { λ r. ⌜ now (answer .exit) ≡ numbersOf (supportsCall (now (table .entry)) (length (now (work .entry))) ty offset (now (stream .entry))) ⌝ }
 {
     *answer = numbers(calls::supports(table, work, ty, offset, stream));
+}
+
+// The answer, and both buffers as they are left; so too of the next two.
+#[no_mangle]
+pub extern "C" fn qptr_place(
+    table: &[u8],
+    work: &mut [u8],
+    first: &[u8],
+    offset: u32,
+    second: &[u8],
+    output: &mut [u8],
+    report: &mut [u8],
+    answer: &mut [u64; 5],
+)
+    ensures { λ r. ⌜ Leaves (placeCall (now (table .entry)) (length (now (work .entry))) (now (first .entry)) offset (now (second .entry)) (now (output .entry)) (length (now (report .entry)))) (now (answer .exit)) (now (output .exit)) (now (report .exit)) ⌝ }
+{
+    *answer = numbers(calls::place(table, work, first, offset, second, output, report));
+}
+
+// Two tops.
+#[no_mangle]
+pub extern "C" fn qptr_merge(
+    table: &[u8],
+    work: &mut [u8],
+    first: &[u8],
+    second: &[u8],
+    output: &mut [u8],
+    report: &mut [u8],
+    answer: &mut [u64; 5],
+)
+    ensures { λ r. ⌜ Leaves (mergeCall (now (table .entry)) (length (now (work .entry))) (now (first .entry)) (now (second .entry)) (now (output .entry)) (length (now (report .entry)))) (now (answer .exit)) (now (output .exit)) (now (report .exit)) ⌝ }
+{
+    *answer = numbers(calls::merge(table, work, first, second, output, report));
+}
+
+// A list.
+#[no_mangle]
+pub extern "C" fn qptr_fold(
+    table: &[u8],
+    work: &mut [u8],
+    list: &[u8],
+    output: &mut [u8],
+    report: &mut [u8],
+    answer: &mut [u64; 5],
+)
+    ensures { λ r. ⌜ Leaves (foldCall (now (table .entry)) (length (now (work .entry))) (now (list .entry)) (now (output .entry)) (length (now (report .entry)))) (now (answer .exit)) (now (output .exit)) (now (report .exit)) ⌝ }
+{
+    *answer = numbers(calls::fold(table, work, list, output, report));
 }

@@ -1,0 +1,68 @@
+-- What is promised of folding sound nodes holds of the definition of the call, by the theorem about lists of sound nodes: the other
+-- refusals that such a call can meet, 1, 7, 10 and 11, are no 8 or 9.
+-- Assumes nothing.
+use Prim.Native.Nat.{ℕ}
+use mathlib.Core.Path.{_≡_, refl}
+use mathlib.Core.Bool.{true, false}
+use mathlib.Core.List.{List, _∷_}
+use mathlib.Core.Option.{some}
+use native.Mathlib.Omega.{arith}
+use lib.Dec.{ltb}
+use lib.ListN.{length, drop}
+use lib.Seq.{take-at}
+use Rattle.definitions.specs.If.{if_then_else_}
+use Rattle.definitions.specs.Limits.{nodeLimit, workLimit}
+use Rattle.definitions.specs.Usage.{Usage, memory, Nodes, allNodes}
+use Rattle.definitions.specs.Stream.{writeTop, listOf}
+use Rattle.definitions.specs.Table.{Table, Setting, tableOf}
+use Rattle.definitions.specs.Place.{Result, refused, done, fold}
+use Rattle.definitions.specs.Sound.{SoundNodes, Promise}
+use Rattle.definitions.specs.Calls.{Written, refuseIf, refusal, allTypesIn, written, foldCall}
+use Rattle.definitions.proofs.Choice.{either}
+use Rattle.definitions.proofs.Demand.{demand}
+use Rattle.calls.specs.Writing.{Gives}
+use Rattle.calls.specs.Folding.{SoundAnswer, SoundlyFolded, Promised}
+use Rattle.calls.specs.declared.Answer.{Answer}
+use Rattle.calls.specs.Answers.{answerOf}
+
+module _ (ns : Nodes) (output : List ℕ) (n : ℕ) where
+  abbrev Kept : Written → Type 0
+  Kept x = SoundlyFolded ns (x .answer) (x .output)
+
+  abbrev KeptBy : Result (List ℕ) → Type 0
+  KeptBy r = Kept (written output n r)
+
+  other-refusal : (k : ℕ) → (k ≡ 8 → ⊥) → (k ≡ 9 → ⊥) → (k ≡ 0 → ⊥) → KeptBy (refused k)
+  other-refusal k not-8 not-9 not-0 = record { not-8 = not-8; not-9 = not-9; answered = λ e. absurd (not-0 e) }
+
+  answer : {r : Result Usage} (p : Promise ns r) → KeptBy (done (writeTop (memory (p .usage))) (p .report) (p .pairings))
+  answer p =
+      let bs : List ℕ = writeTop (memory (p .usage)) in
+      either Kept (ltb (length output) (length bs)) (other-refusal 10 (omega arith) (omega arith) (omega arith))
+      (either Kept (ltb n (length (p .report))) (other-refusal 11 (omega arith) (omega arith) (omega arith)) (record {
+        not-8 = λ e. omega arith;
+        not-9 = λ e. omega arith;
+        answered = λ _. record {
+          usage = p .usage;
+          written = take-at bs (drop (length bs) output) (length bs) refl;
+          sound-usage = p .sound-usage;
+          of-size = p .of-size;
+          few-nodes = p .few-nodes;
+          few-pairings = p .few-pairings;
+        };
+      }))
+
+module _ (table : List ℕ) (work : ℕ) (list output : List ℕ) (n : ℕ) where
+  call-promised : (t : Table) (ns : Nodes) → tableOf table ≡ some t → listOf list ≡ some ns → allTypesIn t (ns .first ∷ ns .others) ≡ true → SoundNodes ns
+      → Kept ns output n (foldCall table work list output n)
+  unfolding foldCall
+  call-promised t ns is-table is-list known sound =
+      let p = demand (record { table = t }) ns sound in
+      rw (is-table, is-list, known, p .answered)
+      (either (KeptBy ns output n) (ltb work workLimit) (other-refusal ns output n 1 (omega arith) (omega arith) (omega arith))
+      (either (KeptBy ns output n) false (other-refusal ns output n 5 (omega arith) (omega arith) (omega arith))
+      (either (KeptBy ns output n) (ltb nodeLimit (allNodes ns)) (other-refusal ns output n 7 (omega arith) (omega arith) (omega arith)) (answer ns output n p))))
+
+  pub with-promise : {a : Answer} {output′ report′ : List ℕ} → Gives (foldCall table work list output n) a output′ report′
+      → Gives (foldCall table work list output n) a output′ report′ × Promised table list (answerOf a) output′
+  with-promise gives = (gives, rw (gives .numbers, gives .usage) (record { of = call-promised }))

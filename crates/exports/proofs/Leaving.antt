@@ -1,0 +1,13 @@
+-- What a call gives, with its numbers written out, is what is left.
+-- Assumes nothing.
+use Prim.Native.Nat.{ℕ}
+use mathlib.Core.Path.{_≡_, ap, _∙_}
+use mathlib.Core.List.{List}
+use Rattle.definitions.specs.Calls.{Written}
+use Rattle.calls.specs.Answers.{answerOf}
+use Rattle.calls.specs.Writing.{Gives}
+use Rattle.calls.specs.declared.Answer.{Answer}
+use Rattle.exports.specs.Numbers.{numbersOf, Leaves}
+
+pub leaves : {w : Written} {a : Answer} {numbers output report : List ℕ} → numbers ≡ numbersOf (answerOf a) → Gives w a output report → Leaves w numbers output report
+leaves e given = record { numbers = e ∙ ap numbersOf (given .numbers); usage = given .usage; reported = given .reported }
