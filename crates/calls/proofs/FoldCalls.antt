@@ -1,6 +1,6 @@
 -- What the call of `fold` gives back is what it is defined to: the refusal that was met, or what folding the list's nodes came to.
 -- Assumes nothing.
-use Prim.Native.Nat.{ℕ, _≤_}
+use Prim.Native.Nat.{ℕ}
 use mathlib.Core.Path.{_≡_, refl, ap, fun-ext, _∙_}
 use mathlib.Core.List.{List, _∷_}
 use mathlib.Core.Option.{Option, none as nothing, some}
@@ -10,7 +10,7 @@ use lib.ListN.{length, replicate}
 use Rattle.definitions.specs.Usage.{memory, Nodes, allNodes}
 use Rattle.definitions.specs.Stream.{writeTop, listOf}
 use Rattle.definitions.specs.Table.{Setting}
-use Rattle.definitions.specs.Place.{Result, refused, under, fold}
+use Rattle.definitions.specs.Place.{Result, under, fold}
 use Rattle.definitions.specs.Calls.{given, withTable, allTypesIn, checked, refusal, written, foldCall}
 use Rattle.definitions.proofs.Written.{Bytes}
 use Rattle.definitions.proofs.ReadsBack.{list-storable}

@@ -9,7 +9,7 @@ use native.Mathlib.Numerals.{add-one}
 use lib.ListN.{length, drop, getD, length-append}
 use Rattle.definitions.specs.Limits.{nodeLimit, workLimit}
 use Rattle.definitions.specs.Usage.{Usage, nodes, nodesOf, Nodes, allNodes}
-use Rattle.definitions.specs.Stream.{read, readNode, readNodes}
+use Rattle.definitions.specs.Stream.{read, readNodes}
 use Rattle.definitions.specs.Table.{Setting}
 use Rattle.definitions.specs.Place.{Result, refused, done, after, mergeMem, ofNode, andThen, foldFrom, fold}
 use Rattle.definitions.specs.Inner.Storable.{Storable, AllStorable}
@@ -19,10 +19,10 @@ use Rattle.definitions.proofs.Stored.{mergeMem-storable}
 use Rattle.records.specs.Usages.{At}
 use Rattle.records.proofs.Parts.{same-bytes}
 use Rattle.report.specs.Emitted.{Emitted}
-use Rattle.report.proofs.Emitting.{emitted-nothing, emitted-after, emitted-all}
-use Rattle.states.specs.Calls.{Known, Fine, Done}
-use Rattle.calls.specs.Writing.{Stood, Reached}
-use Rattle.calls.specs.Folding.{NodeReady, NodeLoaded, Beside, NextReady, ofNext, NextFolded, Foldable, FoldReady}
+use Rattle.report.proofs.Emitting.{emitted-nothing, emitted-after}
+use Rattle.states.specs.Calls.{Known, Done}
+use Rattle.calls.specs.Writing.{Reached}
+use Rattle.calls.specs.Folding.{NodeReady, NodeLoaded, NextReady, ofNext, NextFolded, Foldable}
 use Rattle.calls.specs.declared.Folded.{Folded}
 use Rattle.calls.specs.declared.Loaded.{Loaded}
 use Rattle.calls.proofs.Lists.{Listed, nodes-left, list-behind}

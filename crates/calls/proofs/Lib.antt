@@ -16,6 +16,7 @@ pub mod Keeping
 pub mod Accepting
 pub mod SideBySide
 pub mod Reaching
+pub mod Lending
 pub mod Pairs
 pub mod Placing
 pub mod FirstBytes

@@ -3,23 +3,20 @@
 -- Assumes nothing.
 use Prim.Native.Nat.{ℕ, _+_, _-_, _*_, _≤_}
 use mathlib.Core.Path.{_≡_, sym}
-use mathlib.Core.List.{List, [], _∷_, _++_, append-nil}
+use mathlib.Core.List.{List, [], _∷_, append-nil}
 use native.Mathlib.Omega.{arith}
 use borrow.Author.Tests.{le-leb}
-use lib.ListN.{length, take, drop, length-append, length-drop}
-use lib.Seq.{length-take-le}
+use lib.ListN.{length, drop, length-append, length-drop}
 use Rattle.definitions.specs.Usage.{Usage, nodes}
 use Rattle.definitions.specs.Stream.{writeNode, read, readNode}
 use Rattle.definitions.specs.Table.{Table, Setting}
 use Rattle.definitions.specs.Place.{Result}
 use Rattle.definitions.specs.Inner.Storable.{Storable}
 use Rattle.definitions.proofs.FewPairings.{place-few, mergeMem-few}
-use Rattle.definitions.proofs.Nodes.{some-node}
 use Rattle.definitions.proofs.Writable.{Writable}
 use Rattle.definitions.proofs.Storable.{known-storable}
 use Rattle.definitions.proofs.Rounds.{write-read}
-use Rattle.records.proofs.Usages.{at-move}
-use Rattle.records.proofs.Parts.{same-take, same-left}
+use Rattle.records.proofs.Parts.{same-left}
 use Rattle.stream.specs.Found.{typeBound}
 use Rattle.stream.specs.declared.Found.{Found}
 use Rattle.states.specs.Calls.{Known, Two, Ready, Placed, placing, merging}
@@ -28,6 +25,8 @@ use Rattle.calls.specs.Inputs.{Good, Both, BothLoaded}
 use Rattle.calls.specs.Writing.{Reached}
 use Rattle.calls.proofs.Types.{types-in}
 use Rattle.calls.proofs.Reaching.{FewIn, reached}
+use Rattle.calls.proofs.Lending.{two-lent, ready-lent}
+pub use Rattle.calls.proofs.Lending.{lent, back}
 
 -- behind its first byte, bs is u, with types of the table t
 pub record Usable (t : Table) (bs : List ℕ) (u : Usage) : Type 0 where
@@ -39,13 +38,6 @@ usable t c {u} e fits known = record {
   reads = rw e (rw append-nil at (write-read u [] fits));
   fits = known-storable t u fits (rw (types-in t u) (le-leb (typeBound u) (length t) known));
 }
-
--- the records of n and m nodes that are lent, and the work area once they are back as s
-abbrev pub lent : ℕ → ℕ → List ℕ → List ℕ
-lent n m work = take ((n + m) * 32 - 0) work
-
-abbrev pub back : ℕ → ℕ → List ℕ → List ℕ → List ℕ
-back n m s work = s ++ drop ((n + m) * 32 - 0) work
 
 -- the usages of two streams, with so many nodes
 pub record Pair (t : Table) (first second : List ℕ) (na nb : ℕ) : Type 0 where
@@ -89,31 +81,11 @@ module _ {table places : List ℕ} {size : ℕ} {x y : Found} {na nb : ℕ} (goo
   module _ {work₀ work : List ℕ} (same : length work ≡ size) (loaded : BothLoaded first na second nb work₀ work) where
     two : Two (length (good .layouts)) (lent na nb work) na nb (pair .a) (pair .b)
     two =
-        let all : (na + nb) * 32 - 0 ≡ (na + nb) * 32 = omega arith in
-        let part : List ℕ = take ((na + nb) * 32) work in
-        rw all (record {
-          len = length-take-le ((na + nb) * 32) work (omega (arith, good .enough, good .few));
-          left-nodes = sym (pair .left-nodes);
-          right-nodes = sym (pair .right-nodes);
-          left-offset = 0;
-          left = at-move (pair .a) work part 0 0 0 (λ i lt. same-take work (na + nb) (0 + i) (omega (arith, pair .left-nodes))) (loaded .left (pair .a) (pair .left .reads) (sym (pair .left-nodes)));
-          right-offset = 0;
-          right = at-move (pair .b) work part na na 0 (λ i lt. same-take work (na + nb) (na + i) (omega (arith, pair .right-nodes))) (loaded .right (pair .b) (pair .right .reads));
-          left-fits = pair .left .fits;
-          right-fits = pair .right .fits;
-        })
+        two-lent work (omega (arith, good .enough, good .few)) (length (good .layouts)) 0 0 (sym (pair .left-nodes)) (sym (pair .right-nodes))
+        (loaded .left (pair .a) (pair .left .reads) (sym (pair .left-nodes))) (loaded .right (pair .b) (pair .right .reads)) (pair .left .fits) (pair .right .fits)
 
     pub ready : Ready table places (lent na nb work) na nb
-    ready = record {
-      setting = setting;
-      known = known;
-      a = pair .a;
-      b = pair .b;
-      two = two;
-      left-some = omega (arith, some-node (pair .a), pair .left-nodes);
-      right-some = omega (arith, some-node (pair .b), pair .right-nodes);
-      small = omega (arith, good .few);
-    }
+    ready = ready-lent known two (omega (arith, good .few))
 
     pub reaches : (z : Setting → Usage → Usage → Result Usage) → FewIn (na + nb) (z setting (pair .a) (pair .b))
         → (s : List ℕ) → length s ≡ length (lent na nb work) → (r : Outcome) {rep rep′ : List ℕ}

@@ -10,18 +10,17 @@ use native.Mathlib.Omega.{arith}
 use lib.Dec.{ltb}
 use lib.ListN.{length, drop}
 use lib.Seq.{take-at}
-use Rattle.definitions.specs.If.{if_then_else_}
 use Rattle.definitions.specs.Limits.{nodeLimit, workLimit}
 use Rattle.definitions.specs.Usage.{Usage, memory, Nodes, allNodes}
 use Rattle.definitions.specs.Stream.{writeTop, listOf}
-use Rattle.definitions.specs.Table.{Table, Setting, tableOf}
-use Rattle.definitions.specs.Place.{Result, refused, done, fold}
+use Rattle.definitions.specs.Table.{Table, tableOf}
+use Rattle.definitions.specs.Place.{Result, refused, done}
 use Rattle.definitions.specs.Sound.{SoundNodes, Promise}
-use Rattle.definitions.specs.Calls.{Written, refuseIf, refusal, allTypesIn, written, foldCall}
+use Rattle.definitions.specs.Calls.{Written, allTypesIn, written, foldCall}
 use Rattle.definitions.proofs.Choice.{either}
 use Rattle.definitions.proofs.Demand.{demand}
 use Rattle.calls.specs.Writing.{Gives}
-use Rattle.calls.specs.Folding.{SoundAnswer, SoundlyFolded, Promised}
+use Rattle.calls.specs.Folding.{SoundlyFolded, Promised}
 use Rattle.calls.specs.declared.Answer.{Answer}
 use Rattle.calls.specs.Answers.{answerOf}
 

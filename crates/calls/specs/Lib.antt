@@ -1,6 +1,6 @@
 pub mod Answers
 pub mod Roots
 pub mod Inputs
-pub mod Tops
 pub mod Writing
+pub mod Tops
 pub mod Folding

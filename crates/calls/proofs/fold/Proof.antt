@@ -1,7 +1,6 @@
 -- `fold` meets its contract: the refusals come in their order, the nodes that are folded are the list's, and what is promised of sound
 -- nodes follows from what the call is defined to give.
 -- Assumes nothing.
-use mathlib.Core.Path.{sym}
 use native.Mathlib.Omega.{arith}
 use lib.ListN.{length}
 use borrow.Author.Needs.{needs}

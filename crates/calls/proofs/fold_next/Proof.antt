@@ -2,7 +2,6 @@
 -- position says that something was reported behind it.
 -- Assumes nothing.
 use native.Mathlib.Omega.{arith}
-use lib.ListN.{length}
 use borrow.Author.Needs.{needs}
 use Rattle.calls.proofs.Nexts.{index-back, index-kept, next-node-ready, next-few, next-room, next-merges, next-folded}
 use Rattle.calls.proofs.fold_next.Statement.{statement}
