@@ -17,14 +17,14 @@ use Rattle.definitions.proofs.ReadsBack.{list-storable}
 use Rattle.stream.specs.Found.{allBound, told}
 use Rattle.stream.specs.declared.Found.the-variants.{Stream}
 use Rattle.states.specs.declared.Outcome.{Outcome}
-use Rattle.calls.specs.Answers.{answerOf}
-use Rattle.calls.specs.Inputs.{Met}
-use Rattle.calls.specs.Writing.{Gives, Reachable, Finished}
-use Rattle.calls.specs.Folding.{Foldable, FoldReady, AllFolded}
-use Rattle.calls.specs.declared.Answer.{Answer}
-use Rattle.calls.specs.declared.Inputs.{Inputs}
-use Rattle.calls.proofs.Types.{all-types-in}
-use Rattle.calls.proofs.Accepting.{one-body, one-refused, OneGoing, one-goes-on}
+use Rattle.answers.specs.Answers.{answerOf}
+use Rattle.inputs.specs.Inputs.{Met}
+use Rattle.answers.specs.Writing.{Gives, Reachable, Finished}
+use Rattle.folding.specs.Folding.{Foldable, FoldReady, AllFolded}
+use Rattle.answers.specs.declared.Answer.{Answer}
+use Rattle.inputs.specs.declared.Inputs.{Inputs}
+use Rattle.inputs.proofs.Types.{all-types-in}
+use Rattle.inputs.proofs.Accepting.{one-body, one-refused, OneGoing, one-goes-on}
 
 abbrev folded : Setting → Nodes → Result (List ℕ)
 folded st ns = under (λ u. writeTop (memory u)) (fold st ns)

@@ -18,15 +18,15 @@ use Rattle.states.specs.Calls.{merging}
 use Rattle.states.specs.declared.Outcome.{Outcome}
 use Rattle.stream.specs.Found.{topBound, told}
 use Rattle.stream.specs.declared.Found.{Found}
-use Rattle.calls.specs.Answers.{answerOf}
-use Rattle.calls.specs.Inputs.{Good, Met}
+use Rattle.answers.specs.Answers.{answerOf}
+use Rattle.inputs.specs.Inputs.{Good, Met}
 use Rattle.calls.specs.Tops.{OpaqueFirst, Conflicts}
-use Rattle.calls.specs.Writing.{Gives, Reached, Finished, unlikeReport}
-use Rattle.calls.specs.declared.Answer.{Answer}
-use Rattle.calls.specs.declared.Inputs.{Inputs}
-use Rattle.calls.proofs.Types.{top-types-in}
-use Rattle.calls.proofs.Giving.{gives-kept}
-use Rattle.calls.proofs.Accepting.{body, refused-by, Going, goes-on}
+use Rattle.answers.specs.Writing.{Gives, Reached, Finished, unlikeReport}
+use Rattle.answers.specs.declared.Answer.{Answer}
+use Rattle.inputs.specs.declared.Inputs.{Inputs}
+use Rattle.inputs.proofs.Types.{top-types-in}
+use Rattle.answers.proofs.Giving.{gives-kept}
+use Rattle.inputs.proofs.Accepting.{body, refused-by, Going, goes-on}
 use Rattle.calls.proofs.Pairs.{usable, Pair}
 use Rattle.calls.proofs.FirstBytes.{firstByte, some-bytes, first-byte}
 

@@ -21,12 +21,12 @@ use Rattle.stream.specs.Found.{typeBound}
 use Rattle.stream.specs.declared.Found.{Found}
 use Rattle.states.specs.Calls.{Known, Two, Ready, Placed, placing, merging}
 use Rattle.states.specs.declared.Outcome.{Outcome}
-use Rattle.calls.specs.Inputs.{Good, Both, BothLoaded}
-use Rattle.calls.specs.Writing.{Reached}
-use Rattle.calls.proofs.Types.{types-in}
-use Rattle.calls.proofs.Reaching.{FewIn, reached}
-use Rattle.calls.proofs.Lending.{two-lent, ready-lent}
-pub use Rattle.calls.proofs.Lending.{lent, back}
+use Rattle.inputs.specs.Inputs.{Good, Both, BothLoaded}
+use Rattle.answers.specs.Writing.{Reached}
+use Rattle.inputs.proofs.Types.{types-in}
+use Rattle.answers.proofs.Reaching.{FewIn, reached}
+use Rattle.inputs.proofs.Lending.{two-lent, ready-lent}
+pub use Rattle.inputs.proofs.Lending.{lent, back}
 
 -- behind its first byte, bs is u, with types of the table t
 pub record Usable (t : Table) (bs : List ℕ) (u : Usage) : Type 0 where

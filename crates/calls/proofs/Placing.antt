@@ -15,14 +15,14 @@ use Rattle.states.specs.Calls.{placing}
 use Rattle.states.specs.declared.Outcome.{Outcome}
 use Rattle.stream.specs.Found.{typeBound, told}
 use Rattle.stream.specs.declared.Found.{Found}
-use Rattle.calls.specs.Answers.{answerOf}
-use Rattle.calls.specs.Inputs.{Good, Met}
-use Rattle.calls.specs.Writing.{Gives, Reached, Finished}
-use Rattle.calls.specs.declared.Answer.{Answer}
-use Rattle.calls.specs.declared.Inputs.{Inputs}
-use Rattle.calls.proofs.Types.{types-in}
-use Rattle.calls.proofs.Giving.{gives-kept}
-use Rattle.calls.proofs.Accepting.{body, refused-by, Going, goes-on}
+use Rattle.answers.specs.Answers.{answerOf}
+use Rattle.inputs.specs.Inputs.{Good, Met}
+use Rattle.answers.specs.Writing.{Gives, Reached, Finished}
+use Rattle.answers.specs.declared.Answer.{Answer}
+use Rattle.inputs.specs.declared.Inputs.{Inputs}
+use Rattle.inputs.proofs.Types.{types-in}
+use Rattle.answers.proofs.Giving.{gives-kept}
+use Rattle.inputs.proofs.Accepting.{body, refused-by, Going, goes-on}
 use Rattle.calls.proofs.Pairs.{usable, Pair}
 
 -- what is told of a stream

@@ -19,10 +19,10 @@ use Rattle.definitions.specs.Sound.{SoundNodes, Promise}
 use Rattle.definitions.specs.Calls.{Written, allTypesIn, written, foldCall}
 use Rattle.definitions.proofs.Choice.{either}
 use Rattle.definitions.proofs.Demand.{demand}
-use Rattle.calls.specs.Writing.{Gives}
-use Rattle.calls.specs.Folding.{SoundlyFolded, Promised}
-use Rattle.calls.specs.declared.Answer.{Answer}
-use Rattle.calls.specs.Answers.{answerOf}
+use Rattle.answers.specs.Writing.{Gives}
+use Rattle.calls.specs.Promised.{SoundlyFolded, Promised}
+use Rattle.answers.specs.declared.Answer.{Answer}
+use Rattle.answers.specs.Answers.{answerOf}
 
 module _ (ns : Nodes) (output : List ℕ) (n : ℕ) where
   abbrev Kept : Written → Type 0

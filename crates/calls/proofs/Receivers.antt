@@ -15,7 +15,7 @@ use Rattle.definitions.specs.Place.{Result, refused, done}
 use Rattle.definitions.specs.Calls.{receiverOf, partOf, receiverCall}
 use Rattle.qptr.specs.Values.{Receives}
 use Rattle.qptr.specs.declared.Node.{Node}
-use Rattle.calls.specs.Answers.{receivedOf}
+use Rattle.calls.specs.Received.{receivedOf}
 use Rattle.calls.specs.Roots.{RootOf}
 use Rattle.calls.specs.declared.Received.{Received}
 use Rattle.calls.specs.declared.Received.the-variants.{Nobody, First, Second}

@@ -17,7 +17,7 @@ use Rattle.definitions.specs.Support.{supports, supportsIn}
 use Rattle.definitions.specs.Place.{done, place, placeIn, mergeMem, fold}
 use Rattle.definitions.specs.Calls.{foldCall}
 use Rattle.layout.specs.Places.{Placed}
-use Rattle.calls.specs.Folding.{FoldReady}
+use Rattle.folding.specs.Folding.{FoldReady}
 
 -- types 0 and 1 are scalars of 4 bytes
 table : List ℕ

@@ -19,11 +19,11 @@ use Rattle.definitions.specs.Calls.{checked, refusal, said, soundCall}
 use Rattle.records.specs.Usages.{At}
 use Rattle.transfer.specs.Loading.{Loaded}
 use Rattle.soundness.specs.Standing.{Standing, Tested}
-use Rattle.calls.proofs.Types.{types-in}
+use Rattle.inputs.proofs.Types.{types-in}
 use Rattle.calls.proofs.Memories.{Memory}
 use Rattle.calls.proofs.Loads.{usage-at}
-use Rattle.calls.proofs.Tables.{Begun}
-use Rattle.calls.proofs.Refusals.{short-work, bad-table, good-table, unknown-type, many-nodes, few-nodes}
+use Rattle.inputs.proofs.Tables.{Begun}
+use Rattle.inputs.proofs.Refusals.{short-work, bad-table, good-table, unknown-type, many-nodes, few-nodes}
 
 -- The refusals
 

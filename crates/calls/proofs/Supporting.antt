@@ -22,11 +22,11 @@ use Rattle.layout.specs.Places.{InTable, Says}
 use Rattle.transfer.specs.Loading.{Loaded}
 use Rattle.support.specs.Known.{Known, Askable}
 use Rattle.support.specs.Answers.{Supports}
-use Rattle.calls.proofs.Types.{types-in}
+use Rattle.inputs.proofs.Types.{types-in}
 use Rattle.calls.proofs.Memories.{Memory}
 use Rattle.calls.proofs.Loads.{usage-at}
-use Rattle.calls.proofs.Tables.{Begun}
-use Rattle.calls.proofs.Refusals.{short-work, bad-table, good-table}
+use Rattle.inputs.proofs.Tables.{Begun}
+use Rattle.inputs.proofs.Refusals.{short-work, bad-table, good-table}
 
 -- The refusals
 

@@ -1,6 +1,4 @@
-pub mod Answers
+pub mod Received
 pub mod Roots
-pub mod Inputs
-pub mod Writing
 pub mod Tops
-pub mod Folding
+pub mod Promised

@@ -8,7 +8,7 @@ use Rattle.definitions.specs.Usage.{Top, opaque}
 use Rattle.definitions.specs.Stream.{topOf}
 use Rattle.definitions.specs.Table.{Setting}
 use Rattle.definitions.specs.Place.{done, merge}
-use Rattle.calls.specs.Writing.{unlikeReport}
+use Rattle.answers.specs.Writing.{unlikeReport}
 
 -- the first stream is an Opaque, and the second some top
 pub record OpaqueFirst (first second : List ℕ) : Type 0 where

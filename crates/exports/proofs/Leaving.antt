@@ -4,9 +4,9 @@ use Prim.Native.Nat.{ℕ}
 use mathlib.Core.Path.{_≡_, ap, _∙_}
 use mathlib.Core.List.{List}
 use Rattle.definitions.specs.Calls.{Written}
-use Rattle.calls.specs.Answers.{answerOf}
-use Rattle.calls.specs.Writing.{Gives}
-use Rattle.calls.specs.declared.Answer.{Answer}
+use Rattle.answers.specs.Answers.{answerOf}
+use Rattle.answers.specs.Writing.{Gives}
+use Rattle.answers.specs.declared.Answer.{Answer}
 use Rattle.exports.specs.Numbers.{numbersOf, Leaves}
 
 pub leaves : {w : Written} {a : Answer} {numbers output report : List ℕ} → numbers ≡ numbersOf (answerOf a) → Gives w a output report → Leaves w numbers output report

@@ -2,9 +2,10 @@
 ghost use mathlib.Core.Path.{_≡_};
 ghost use lib.ListN.{length};
 ghost use Rattle.definitions.specs.Calls.{receiverOf, soundCall, supportsCall, placeCall, mergeCall, foldCall};
-ghost use Rattle.calls.specs.Answers.{answerOf, receivedOf};
+ghost use Rattle.answers.specs.Answers.{answerOf};
+ghost use Rattle.calls.specs.Received.{receivedOf};
 ghost use Rattle.exports.specs.Numbers.{numberOf, bit, numbersOf, Leaves};
-use calls::Answer;
+use answers::Answer;
 use calls::Received;
 
 fn number(r: Received) -> u32

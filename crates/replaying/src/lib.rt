@@ -4,7 +4,7 @@ ghost use mathlib.Core.Path.{_≡_};
 ghost use Prim.Native.Nat.{_+_, _≤_};
 ghost use lib.ListN.{length};
 ghost use Rattle.replaying.specs.Parts.{Ends, Sized, Whole, Reads, Single};
-use calls::Answer;
+use answers::Answer;
 use check::same;
 use records::get32;
 

@@ -9,8 +9,8 @@ use Rattle.definitions.specs.Usage.{Usage}
 use Rattle.definitions.specs.Place.{Result}
 use Rattle.definitions.proofs.Written.{Bytes}
 use Rattle.states.specs.Calls.{merging}
-use Rattle.calls.specs.Inputs.{Good, Met}
-use Rattle.calls.specs.Writing.{Reached}
+use Rattle.inputs.specs.Inputs.{Good, Met}
+use Rattle.answers.specs.Writing.{Reached}
 use Rattle.calls.proofs.Pairs.{back, both, ready, merging-few, reaches}
 use Rattle.calls.proofs.Merging.{toldTop, merge-refused, first-some, second-some, opaque-first, merge-opaque, merge-unlike, ReadMerged, merge-alike, merge-gives}
 use Rattle.calls.proofs.merge.Statement.{statement}

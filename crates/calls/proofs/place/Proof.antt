@@ -8,8 +8,8 @@ use Rattle.definitions.specs.Usage.{Usage}
 use Rattle.definitions.specs.Place.{Result}
 use Rattle.definitions.proofs.Written.{Bytes}
 use Rattle.states.specs.Calls.{placing}
-use Rattle.calls.specs.Inputs.{Good, Met}
-use Rattle.calls.specs.Writing.{Reached}
+use Rattle.inputs.specs.Inputs.{Good, Met}
+use Rattle.answers.specs.Writing.{Reached}
 use Rattle.calls.proofs.Pairs.{back, Pair, both, ready, placing-few, reaches}
 use Rattle.calls.proofs.Placing.{toldMemory, place-refused, place-pair, place-gives}
 use Rattle.calls.proofs.place.Statement.{statement}

@@ -5,7 +5,7 @@ use borrow.Author.Needs.{needs}
 use borrow.Author.Tests.{not-true, not-false}
 use lib.ListN.{length}
 use Rattle.calls.proofs.Memories.{Memory, found, lost}
-use Rattle.calls.proofs.Tables.{Begun, begin}
+use Rattle.inputs.proofs.Tables.{Begun, begin}
 use Rattle.calls.proofs.Loads.{loadable}
 use Rattle.calls.proofs.Sounding.{sound-short, sound-tableless, sound-broken, sound-unknown, sound-many, sound-said, standing, tested}
 use Rattle.calls.proofs.sound.Statement.{statement}

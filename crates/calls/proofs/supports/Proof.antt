@@ -5,7 +5,7 @@ use borrow.Author.Needs.{needs}
 use borrow.Author.Tests.{not-true, not-false}
 use lib.ListN.{length}
 use Rattle.calls.proofs.Memories.{Memory, found, lost}
-use Rattle.calls.proofs.Tables.{Begun, begin}
+use Rattle.inputs.proofs.Tables.{Begun, begin}
 use Rattle.calls.proofs.Loads.{loadable}
 use Rattle.calls.proofs.Supporting.{supports-short, supports-tableless, supports-broken, in-table, supports-typeless, supports-unknown, supports-abstract, supports-many, supports-said, askable, supported}
 use Rattle.calls.proofs.supports.Statement.{statement}

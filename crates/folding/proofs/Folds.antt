@@ -1,0 +1,245 @@
+-- The turns of a fold: what was reported and counted so far, and folding the nodes that are left, together give what folding all of
+-- them does. Few nodes are left at each turn, so that no position comes to where positions wrap.
+-- Assumes nothing.
+use Prim.Native.Nat.{ℕ, suc, _+_, _*_, _-_, _%_, _^_, _<_, _≤_}
+use mathlib.Core.Path.{_≡_, refl, sym, ap, _∙_}
+use mathlib.Core.List.{List, [], _∷_, _++_, append-assoc, append-nil}
+use native.Mathlib.Omega.{arith}
+use native.Mathlib.Numerals.{add-one}
+use lib.ListN.{length, drop, getD, length-append}
+use Rattle.definitions.specs.Limits.{nodeLimit, workLimit}
+use Rattle.definitions.specs.Usage.{Usage, nodes, nodesOf, Nodes, allNodes}
+use Rattle.definitions.specs.Stream.{read, readNodes}
+use Rattle.definitions.specs.Table.{Setting}
+use Rattle.definitions.specs.Place.{Result, refused, done, after, mergeMem, ofNode, andThen, foldFrom, fold}
+use Rattle.definitions.specs.Inner.Storable.{Storable, AllStorable}
+use Rattle.definitions.proofs.Nodes.{some-node}
+use Rattle.definitions.proofs.FewPairings.{mergeMem-few, fold-few}
+use Rattle.definitions.proofs.Stored.{mergeMem-storable}
+use Rattle.records.specs.Usages.{At}
+use Rattle.records.proofs.Parts.{same-bytes}
+use Rattle.report.specs.Emitted.{Emitted}
+use Rattle.report.proofs.Emitting.{emitted-nothing, emitted-after}
+use Rattle.states.specs.Calls.{Known, Done}
+use Rattle.answers.specs.Writing.{Reached}
+use Rattle.folding.specs.Folding.{NodeReady, NodeLoaded, NextReady, ofNext, NextFolded, Foldable}
+use Rattle.folding.specs.declared.Folded.{Folded}
+use Rattle.folding.specs.declared.Loaded.{Loaded}
+use Rattle.folding.proofs.Lists.{Listed, nodes-left, list-behind}
+use Rattle.answers.proofs.Reaching.{reached}
+
+-- Results
+
+after-nothing : {A : Type 0} (r : Result A) → after [] 0 r ≡ r
+after-nothing (refused k) = refl
+after-nothing (done a w p) = let e : 0 + p ≡ p = omega arith in rw e
+
+after-both : {A : Type 0} (w w′ : List ℕ) (p p′ : ℕ) (r : Result A) → after w p (after w′ p′ r) ≡ after (w ++ w′) (p + p′) r
+after-both w w′ p p′ (refused k) = refl
+after-both w w′ p p′ (done a v q) = let e : p + (p′ + q) ≡ p + p′ + q = omega arith in rw (e, append-assoc w w′ v)
+
+-- 38 and an index are three bytes
+node-short : (i : ℕ) (w : List ℕ) → length (ofNode i w) ≤ 3 + length w
+node-short i [] = omega arith
+node-short i (x ∷ w) = omega arith
+
+-- u stands for the nodes so far, with the report w and p pairings; us are left
+pub record Folding (st : Setting) (ns : Nodes) (list : List ℕ) (count : ℕ) (rep₀ work rep : List ℕ) (f : Folded) (i : ℕ) : Type 0 where
+  pub u : Usage
+  pub w : List ℕ
+  pub p : ℕ
+  pub us : List Usage
+  pub left : ℕ
+  pub comes : fold st ns ≡ after w p (foldFrom st i u us)
+  pub to-come : i + left ≡ count
+  pub reads : readNodes left (drop (f .end) list) ≡ read us []
+  pub within : f .end ≤ length list
+  pub offset : ℕ
+  pub stands : At u work 0 offset
+  pub counted : nodes u ≡ f .result .nodes
+  pub answered : f .result .refusal ≡ 0
+  pub fits : Storable (length (st .table)) u
+  pub others-fit : AllStorable (length (st .table)) us
+  pub few : nodes u + nodesOf us ≤ nodeLimit
+  pub turns : i + nodesOf us ≤ nodeLimit
+  pub short : length w ≤ i * 2 ^ 22
+  pub pairs : f .result .pairings ≡ p % 2 ^ 32
+  pub report : Emitted rep₀ 0 w rep (f .result .at)
+
+-- The first node
+
+abbrev start : Loaded → Folded
+start l = record { end = l .end; result = record { refusal = 0; nodes = l .nodes; pairings = 0; at = 0 } }
+
+module _ {table places list : List ℕ} {st : Setting} {ns : Nodes} (foldable : Foldable table places list st ns) where
+  pub count-inside : 3 ≤ length list
+  count-inside = list-behind list (foldable .is) .0
+
+  pub first-ready : {work : List ℕ} → workLimit ≤ length work → NodeReady list 3 work 0
+  first-ready enough =
+      let all = list-behind list (foldable .is) .1 in
+      record {
+        usage = ns .first;
+        rest = all .behind;
+        reads = all .first-reads;
+        within = count-inside;
+        inside = omega (arith, foldable .few);
+        small = omega (arith, foldable .few);
+      }
+
+  pub fold-start : {work work₁ : List ℕ} {l : Loaded} (rep : List ℕ) {count : ℕ} → count ≡ getD list 1 0 + getD list 2 0 * 256
+      → NodeLoaded list 3 work 0 work₁ l → Folding st ns list count rep work₁ rep (start l) 1
+  unfolding fold
+  fold-start {l} rep e loaded =
+      let all = list-behind list (foldable .is) .1 in
+      let place : drop (l .end) list ≡ all .behind = loaded .behind (ns .first) (all .behind) (all .first-reads) in
+      record {
+        u = ns .first;
+        w = [];
+        p = 0;
+        us = ns .others;
+        left = all .others-count;
+        comes = sym (after-nothing (foldFrom st 1 (ns .first) (ns .others)));
+        to-come = omega (arith, all .counted);
+        reads = rw place (all .others-read);
+        within = loaded .within;
+        offset = 0;
+        stands = loaded .stands (ns .first) (all .behind) (all .first-reads);
+        counted = loaded .counted (ns .first) (all .behind) (all .first-reads);
+        answered = refl;
+        fits = foldable .fits .0;
+        others-fit = foldable .fits .1;
+        few = foldable .few;
+        turns = omega (arith, foldable .few, some-node (ns .first));
+        short = omega arith;
+        pairs = omega arith;
+        report = emitted-nothing rep 0 (omega arith);
+      }
+
+-- The next ones
+
+module _ {st : Setting} {ns : Nodes} {list : List ℕ} {count : ℕ} {rep₀ work rep : List ℕ} {f : Folded} {i : ℕ} (folding : Folding st ns list count rep₀ work rep f i) where
+  next-node : i < count → Listed _∷_ (folding .left - 1) (drop (f .end) list) (folding .us) []
+  next-node more =
+      let one : folding .left ≡ suc (folding .left - 1) = omega (arith, folding .to-come) in
+      nodes-left (folding .left - 1) (drop (f .end) list) (rw one at (folding .reads))
+
+  pub turn-ready : {table places : List ℕ} → Known table places st → i < count → workLimit ≤ length work → NextReady table places list f work
+  turn-ready known more enough =
+      let node = next-node more in
+      let few : nodes (folding .u) + nodesOf (node .first ∷ node .others) ≤ nodeLimit = rw (node .is) at (folding .few) in
+      let fit : AllStorable (length (st .table)) (node .first ∷ node .others) = rw (node .is) at (folding .others-fit) in
+      record {
+        setting = st;
+        a = folding .u;
+        b = node .first;
+        rest = node .behind;
+        beside =
+            record {
+              known = known;
+              offset = folding .offset;
+              stands = folding .stands;
+              counted = folding .counted;
+              reads = node .first-reads;
+              left-fits = folding .fits;
+              right-fits = fit .0;
+            };
+        within = folding .within;
+        few = omega arith;
+        enough = enough;
+        near = omega (arith, folding .report .place, folding .short, folding .turns);
+      }
+
+  module _ {table places : List ℕ} (known : Known table places st) (more : i < count) {work′ rep′ : List ℕ} {r : Folded} (next : NextFolded table places list i f work rep work′ rep′ r) where
+    node-fit : AllStorable (length (st .table)) (next-node more .first ∷ next-node more .others)
+    node-fit = rw (next-node more .is) at (folding .others-fit)
+
+    -- what merging the next node gives is left
+    left : Done (ofNext i (f .result .pairings) (mergeMem st (folding .u) (next-node more .first))) work′ (r .result .refusal) (r .result .nodes) (r .result .pairings) rep (f .result .at) rep′ (r .result .at)
+    left = next .merged st (folding .u) (next-node more .first) (next-node more .behind)
+        (record {
+          known = known;
+          offset = folding .offset;
+          stands = folding .stands;
+          counted = folding .counted;
+          reads = next-node more .first-reads;
+          left-fits = folding .fits;
+          right-fits = node-fit .0;
+        })
+
+    -- and the definition goes on with it
+    onward : {x : Result Usage} → mergeMem st (folding .u) (next-node more .first) ≡ x
+        → fold st ns ≡ after (folding .w) (folding .p) (andThen (ofNode i) x (λ v. foldFrom st (suc i) v (next-node more .others)))
+    onward e =
+        folding .comes
+        ∙ ap (λ us. after (folding .w) (folding .p) (foldFrom st i (folding .u) us)) (next-node more .is)
+        ∙ ap (λ y. after (folding .w) (folding .p) (andThen (ofNode i) y (λ v. foldFrom st (suc i) v (next-node more .others)))) e
+
+    pub turn-refused : (r .result .refusal ≡ 0 → ⊥) → Reached (fold st ns) work′ (r .result) rep′
+    turn-refused not0 = go (mergeMem st (folding .u) (next-node more .first)) refl left
+      where
+        go : (x : Result Usage) → mergeMem st (folding .u) (next-node more .first) ≡ x
+            → Done (ofNext i (f .result .pairings) x) work′ (r .result .refusal) (r .result .nodes) (r .result .pairings) rep (f .result .at) rep′ (r .result .at)
+            → Reached (fold st ns) work′ (r .result) rep′
+        go (refused k) e D = rw (onward e) D
+        go (done v w q) e D = absurd (not0 (D .answered))
+
+    pub turn-on : r .result .refusal ≡ 0 → Folding st ns list count rep₀ work′ rep′ r (i + 1)
+    turn-on is0 = go (mergeMem st (folding .u) (next-node more .first)) refl left
+      where
+        go : (x : Result Usage) → mergeMem st (folding .u) (next-node more .first) ≡ x
+            → Done (ofNext i (f .result .pairings) x) work′ (r .result .refusal) (r .result .nodes) (r .result .pairings) rep (f .result .at) rep′ (r .result .at)
+            → Folding st ns list count rep₀ work′ rep′ r (i + 1)
+        go (refused k) e D = absurd (omega (arith, D .0, D .1))
+        go (done v w q) e D =
+            let node = next-node more in
+            let was : nodes (folding .u) + nodesOf (node .first ∷ node .others) ≤ nodeLimit = rw (node .is) at (folding .few) in
+            let turns : i + nodesOf (node .first ∷ node .others) ≤ nodeLimit = rw (node .is) at (folding .turns) in
+            let few = mergeMem-few st {m = nodes (folding .u) + nodes (node .first)} (folding .u) (node .first) e (omega arith) in
+            let short = mergeMem-few st {m = nodeLimit} (folding .u) (node .first) e (omega arith) .short-report in
+            let place : drop (r .end) list ≡ node .behind = next .behind (node .first) (node .behind) (node .first-reads) in
+            record {
+              u = v;
+              w = folding .w ++ ofNode i w;
+              p = folding .p + q;
+              us = node .others;
+              left = folding .left - 1;
+              comes = rw add-one (onward e ∙ after-both (folding .w) (ofNode i w) (folding .p) q (foldFrom st (suc i) v (node .others)));
+              to-come = omega (arith, folding .to-come);
+              reads = rw place (node .others-read);
+              within = next .within;
+              offset = D .offset;
+              stands = D .stands;
+              counted = D .count;
+              answered = is0;
+              fits = mergeMem-storable st (length (st .table)) (folding .u) (node .first) (folding .fits) (node-fit .0) e;
+              others-fit = node-fit .1;
+              few = omega (arith, few .few-nodes);
+              turns = omega (arith, some-node (node .first));
+              short = omega (arith, short, folding .short, node-short i w, length-append (folding .w) (ofNode i w));
+              pairs = omega (arith, D .pairs, folding .pairs);
+              report = emitted-after (folding .report) (D .report);
+            }
+
+  -- The end
+
+  pub fold-end : allNodes ns ≤ nodeLimit → count ≤ i → workLimit ≤ length work → Reached (fold st ns) work (f .result) rep
+  fold-end few all enough =
+      reached nodeLimit work work (omega arith) enough (λ j lt. same-bytes work work (0 + j) (0 + j) (λ k l. refl)) (fold st ns) (f .result) rep₀ rep (λ u w p e. fold-few st ns e few)
+      (rw is-done (record {
+        answered = folding .answered;
+        offset = folding .offset;
+        stands = folding .stands;
+        count = folding .counted;
+        pairs = folding .pairs;
+        report = folding .report;
+      }))
+    where
+      none-left : (k : ℕ) (us : List Usage) → k ≡ 0 → readNodes k (drop (f .end) list) ≡ read us [] → us ≡ []
+      none-left k us e h = let none : readNodes 0 (drop (f .end) list) ≡ read us [] = rw e at h in cc
+
+      is-done : fold st ns ≡ done (folding .u) (folding .w) (folding .p)
+      is-done =
+          let no-more : folding .us ≡ [] = none-left (folding .left) (folding .us) (omega (arith, folding .to-come)) (folding .reads) in
+          let sum : folding .p + 0 ≡ folding .p = omega arith in
+          folding .comes ∙ rw (no-more, append-nil, sum)

@@ -1,0 +1,4 @@
+pub mod NodeLoads
+pub mod Lists
+pub mod Nexts
+pub mod Folds

@@ -1,0 +1,111 @@
+-- `fold_nodes` meets its contract: what is left to fold, with what was reported and counted so far, gives what the definition does,
+-- and fewer nodes are left at each turn. A refusal ends the fold.
+-- Assumes nothing.
+use Prim.Native.Nat.{_-_}
+use mathlib.Core.Path.{_≡_, refl}
+use native.Mathlib.Omega.{arith}
+use borrow.Author.Needs.{needs}
+use lib.ListN.{length}
+use Rattle.definitions.specs.Usage.{Nodes}
+use Rattle.definitions.specs.Table.{Setting}
+use Rattle.folding.specs.Folding.{Foldable}
+use Rattle.folding.proofs.Folds.{Folding, count-inside, first-ready, fold-start, turn-ready, turn-refused, turn-on, fold-end}
+use Rattle.folding.proofs.fold_nodes.Statement.{statement}
+use Rattle.folding.proofs.fold_nodes.Tie as tie
+
+abbrev Inv-loop : tie.InvT-loop
+Inv-loop table places list work₀ rep₀ count f₀ i₀ work rep f i =
+    ((st : Setting) (ns : Nodes) → Foldable table places list st ns → Folding st ns list count rep₀ work rep f i) × (length work ≡ length work₀) × (length rep ≡ length rep₀)
+
+abbrev μ-loop : tie.MeasureT-loop
+μ-loop table places list work₀ rep₀ count f₀ i₀ work rep f i = count - i
+
+shared-slice-read-count : tie.Need-shared-slice-read-count Inv-loop μ-loop
+shared-slice-read-count c = omega (arith, count-inside (c .before .before .before .before .before .before .pre .foldable))
+
+cast-count : tie.Need-cast-count Inv-loop μ-loop
+cast-count c = omega (arith, c .shared-slice-known4 .given 1)
+
+shared-slice-read-count-2 : tie.Need-shared-slice-read-count-2 Inv-loop μ-loop
+shared-slice-read-count-2 c = omega (arith, count-inside (c .before .before .before .before .before .before .before .pre .foldable))
+
+cast-count-2 : tie.Need-cast-count-2 Inv-loop μ-loop
+cast-count-2 c = omega (arith, c .shared-slice-known5 .given 2)
+
+mul-count : tie.Need-mul-count Inv-loop μ-loop
+mul-count c = omega (arith, c .shared-slice-known5 .given 2)
+
+add-count : tie.Need-add-count Inv-loop μ-loop
+add-count c = omega (arith, c .shared-slice-known5 .given 1, c .shared-slice-known5 .given 2)
+
+load-node-requires : tie.Need-load-node-requires Inv-loop μ-loop
+load-node-requires c κs = first-ready (c .before .before .before .before .before .before .before .before .pre .foldable) (c .before .before .before .before .before .before .before .before .pre .enough)
+
+loop-holds : tie.Need-loop-holds Inv-loop μ-loop
+loop-holds c =
+    ((λ st ns h. fold-start h (c .before .before .before .before .before .before .before .before .before .before .before .args .rep .now) refl (c .before .before .load-node .ensures)), refl, refl)
+
+fold-next-requires : tie.Need-fold-next-requires Inv-loop μ-loop
+fold-next-requires c κs =
+    let here = c .before .before .before in
+    let ready = here .before .before .before .before .before .before .before .before .before .before .before .before .pre in
+    turn-ready (here .loop .inv .0 (ready .setting) (ready .listed) (ready .foldable)) (ready .foldable .known) (c .before .before .loop-test .taken) (omega (arith, ready .enough, here .loop .inv .1))
+
+same-length : tie.Need-same-length Inv-loop μ-loop
+same-length c = omega (arith, c .before .before .before .before .before .before .before .before .before .before .before .loop .inv .1)
+
+same-length-2 : tie.Need-same-length-2 Inv-loop μ-loop
+same-length-2 c = omega (arith, c .before .before .before .before .before .before .before .before .before .before .before .loop .inv .2)
+
+returns : tie.Need-returns Inv-loop μ-loop
+returns c =
+    record {
+      of = λ st ns h. turn-refused (c .before .before .before .before .before .before .before .before .before .before .before .loop .inv .0 st ns h) (h .known) (c .before .before .before .before .before .before .before .before .before .before .loop-test .taken) (c .before .before .before .before .before .before .before .fold-next .ensures) (c .before .if1 .taken);
+    }
+
+add-i : tie.Need-add-i Inv-loop μ-loop
+add-i c = omega (arith, c .before .before .before .before .before .before .before .before .before .loop-test .taken, c .before .before .before .before .before .before .before .before .before .before .before .before .before .before .before .shared-slice-known5 .given 1, c .before .before .before .before .before .before .before .before .before .before .before .before .before .before .before .shared-slice-known5 .given 2)
+
+loop-less : tie.Need-loop-less Inv-loop μ-loop
+loop-less c = search needs
+
+loop-again : tie.Need-loop-again Inv-loop μ-loop
+loop-again c =
+    let inv = c .before .before .before .before .before .before .before .before .before .before .loop .inv in
+    ((λ st ns h. turn-on (inv .0 st ns h) (h .known) (c .before .before .before .before .before .before .before .before .before .loop-test .taken) (c .before .before .before .before .before .before .fold-next .ensures) (c .if1 .left)), omega (arith, inv .1), omega (arith, inv .2))
+
+same-length-3 : tie.Need-same-length-3 Inv-loop μ-loop
+same-length-3 c = omega (arith, c .before .before .loop .inv .1)
+
+same-length-4 : tie.Need-same-length-4 Inv-loop μ-loop
+same-length-4 c = omega (arith, c .before .before .loop .inv .2)
+
+returns-2 : tie.Need-returns-2 Inv-loop μ-loop
+returns-2 c =
+    let here = c .before .before in
+    record { of = λ st ns h. fold-end (here .loop .inv .0 st ns h) (h .few) (c .before .loop-test .left) (omega (arith, here .before .before .before .before .before .before .before .before .before .before .before .before .pre .enough, here .loop .inv .1)) }
+
+pub fold-nodes-spec : {M : Type 1} → statement M
+fold-nodes-spec =
+    tie.close
+    (tie.spec
+    Inv-loop
+    μ-loop
+    shared-slice-read-count
+    cast-count
+    shared-slice-read-count-2
+    cast-count-2
+    mul-count
+    add-count
+    load-node-requires
+    loop-holds
+    fold-next-requires
+    same-length
+    same-length-2
+    returns
+    add-i
+    loop-less
+    loop-again
+    same-length-3
+    same-length-4
+    returns-2)

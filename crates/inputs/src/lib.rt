@@ -1,0 +1,89 @@
+// What the calls are given: the refusals 1 to 7 of a table and its streams, in their order, but for 6; and two usages loaded.
+ghost use mathlib.Core.Path.{_≡_};
+ghost use Prim.Native.Nat.{_≤_};
+ghost use lib.ListN.{length};
+ghost use Rattle.inputs.specs.Inputs.{Met, Both, BothLoaded};
+use answers::BAD_FIRST;
+use answers::BAD_SECOND;
+use answers::BAD_TABLE;
+use answers::MANY_NODES;
+use answers::SHORT_WORK;
+use answers::UNKNOWN_TYPE;
+use stream::Found;
+
+// The bytes of a work area, and the nodes of all inputs together: `workLimit` and `nodeLimit`, which the contracts hold them to.
+pub const WORK: usize = 49152;
+
+pub const NODES: usize = 512;
+
+// What is known of a call's streams: the refusal that they meet, or 0 and their nodes.
+pub struct Inputs {
+    pub refusal: u32,
+    pub first: usize,
+    pub second: usize,
+}
+
+fn unmet(refusal: u32) -> Inputs
+    ensures { λ r. ⌜ (r .refusal ≡ refusal) × (r .first ≡ 0) × (r .second ≡ 0) ⌝ }
+{
+    Inputs {
+        refusal,
+        first: 0,
+        second: 0,
+    }
+}
+
+// The refusals 1 to 7 in their order, but for 6.
+pub fn accept(table: &[u8], work: &[u8], places: &mut [u32], a: Found, b: Found) -> Inputs
+    requires { ⌜ 1024 ≤ length (now places) ⌝ }
+    ensures { λ r. ⌜ Met (now (table .entry)) (length (now (work .entry))) a b (now (places .exit)) r ⌝ }
+{
+    if work.len() < WORK {
+        return unmet(SHORT_WORK);
+    }
+    let records = layout::accept(table, places);
+    if !records.ok {
+        return unmet(BAD_TABLE);
+    }
+    let Found::Stream {
+        nodes: first,
+        types: k,
+    } = a
+    else {
+        return unmet(BAD_FIRST);
+    };
+    let Found::Stream {
+        nodes: second,
+        types: l,
+    } = b
+    else {
+        return unmet(BAD_SECOND);
+    };
+    let types = records.count as u64;
+    if types < k {
+        return unmet(UNKNOWN_TYPE);
+    }
+    if types < l {
+        return unmet(UNKNOWN_TYPE);
+    }
+    if NODES < first {
+        return unmet(MANY_NODES);
+    }
+    if NODES - first < second {
+        return unmet(MANY_NODES);
+    }
+    Inputs {
+        refusal: 0,
+        first,
+        second,
+    }
+}
+
+// The two usages stand side by side from record 0 on.
+pub fn load_both(first: &[u8], na: usize, second: &[u8], nb: usize, work: &mut [u8])
+    requires { ⌜ Both (now first) na (now second) nb (now work) ⌝ }
+    ensures { λ r. ⌜ BothLoaded (now (first .entry)) na (now (second .entry)) nb (now (work .entry)) (now (work .exit)) ⌝ }
+{
+    transfer::load(first, 1, na, work, 0);
+    transfer::load(second, 1, nb, work, na);
+}
