@@ -12,11 +12,13 @@ use Rattle.definitions.specs.Table.{Setting}
 use Rattle.definitions.specs.Place.{Result, refused, done, place}
 use Rattle.definitions.proofs.Nodes.{some-node}
 use Rattle.states.specs.Calls.{Known, Ready, Near, placing, merging, Placed}
+use Rattle.states.specs.Fingers.{Finger, Fingered}
 use Rattle.states.specs.States.{Beyond, entries, element, joins, act, heading, entryHead, Numbers, Short, Pending, Next, Began, Waiting, Answered, Gave, Took, Settled, Outside}
 use Rattle.states.specs.declared.State.{State}
 use Rattle.states.specs.declared.Outcome.{Outcome}
+use Rattle.states.proofs.Outside.{Placings, placings, outside-2}
 use Rattle.states.proofs.Room.{place-short}
-use Rattle.analyze.proofs.Pairs.{two-part, took, len-back}
+use Rattle.analyze.proofs.Pairs.{finger-part, two-part, finger-back, took, len-back}
 
 -- `alive` is for the goal that the call has at hand: with it the next call may be made
 pub record Loop (table places s₀ rep₀ : List ℕ) (st₀ : State) (at total : ℕ) (s rep : List ℕ) (st : State) : Type 0 where
@@ -66,6 +68,10 @@ module _ {table places sₑ s₀ repₑ rep₀ : List ℕ} {na d nb at : ℕ} {s
         L .next setting known (place setting a d b) repₑ (place-short setting a d b at small (omega arith)) (B .next setting known a b two) .ends e;
   }
 
+pub loop-finger : {table places s₀ rep₀ : List ℕ} {st₀ : State} {at total : ℕ} {s rep : List ℕ} {st : State} → Loop table places s₀ rep₀ st₀ at total s rep st → st .todo ≡ 0
+    → Fingered s (record { refusal = st .refusal; nodes = st .n; pairings = st .pairings; at = st .at; finger = st .finger })
+loop-finger L e = record { of = λ _. L .alive .finger e }
+
 -- The position of the pair's report
 
 headed : (y : Beyond) (w : List ℕ) (o : ℕ) → length ((heading y ++ w) ++ entryHead y o) ≤ length w + 6
@@ -93,11 +99,21 @@ module _ {table places s₀ s rep₀ rep : List ℕ} {st₀ st : State} {at tota
         small = omega (arith, L .numbers .fits, L .numbers .high, L .small);
       }
 
+  pub pair-finger : Finger (take k (drop x s)) 0 (st .n) (st .finger)
+  pair-finger = finger-part x e k (L .alive .goes more) (L .numbers) (L .len) ex ee ek
+
+  -- rule 2 does not merge
+  pub merges-none : st .todo ≡ 2 → st .rule ≡ 2 → ⊥
+  merges-none two rule = let Q = L .alive .goes more in go (outside-2 (length (L .setting .table)) s st total (Q .y) rule (Q .outside))
+    where
+      go : {y : Beyond} → Placings (length (L .setting .table)) s st total y → ⊥
+      go (placings es h) = omega (arith, h .asks)
+
   pub pair-near : Near (st .at) (st .n + st .m)
   pair-near = near-pair (L .alive .goes more) (L .near) (omega (arith, L .numbers .less, L .numbers .high))
 
   -- a turn, where the call's answer A is what the state asks for
-  module _ {y s₂ rep′ : List ℕ} {r : Outcome} {A : Setting → Usage → Usage → Result Usage} (is : (setting : Setting) (t u : Usage) → A setting t u ≡ act setting (st .todo) (st .d) t u)
+  module _ {y s₂ rep′ : List ℕ} (r : Outcome) {A : Setting → Usage → Usage → Result Usage} (is : (setting : Setting) (t u : Usage) → A setting t u ≡ act setting (st .todo) (st .d) t u)
       (P : Placed A table places (take k (drop x s)) (st .n) (st .m) y (r .refusal) (r .nodes) (r .pairings) rep (st .at) rep′ (r .at))
       (ly : length y ≡ length (take k (drop x s))) (back : s₂ ≡ take x s ++ (y ++ drop k (drop x s))) (d-fits : st .d ≤ max32) where
     took-pair : (setting : Setting) → Known table places setting → (goal : Result Usage) (repₑ : List ℕ) → Next setting goal repₑ at s rep st total
@@ -116,10 +132,14 @@ module _ {table places s₀ s rep₀ rep : List ℕ} {st₀ st : State} {at tota
       | no v ↦ absurd (more (omega arith))
     ]
 
-    pub pair-answered : Answered s₂ st r total
-    pair-answered =
+    pub pair-answered : (st .rule ≡ 2 → r .refusal ≡ 0 → Finger y 0 (r .nodes) (r .finger)) → Answered s₂ st r total
+    pair-answered F =
         let T = took-pair (L .setting) (L .known) (L .goal) (L .repₑ) (L .alive) in
-        record { some = L .some; waits = λ z. go (T .x) (T .y) (T .o) (T .w) (T .p) (T .gave) (T .outside) z }
+        record {
+          some = L .some;
+          waits = λ z. go (T .x) (T .y) (T .o) (T .w) (T .p) (T .gave) (T .outside) z;
+          finger = λ z rule. finger-back x e k (L .alive .goes more) (L .numbers) (L .len) ex ee ek y s₂ rep′ r ly back (P .few) (omega (arith, L .near)) d-fits (F rule z);
+        }
       where
         go : (v : Result Usage) (y′ : Beyond) (o : ℕ) (w : List ℕ) (p : ℕ) → Gave (length (L .setting .table)) y′ o w p (L .repₑ) at v s₂ rep′ st r
             → Outside (length (L .setting .table)) y′ s₂ st total → r .refusal ≡ 0 → Waiting s₂ st (r .nodes) total

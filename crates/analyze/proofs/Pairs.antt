@@ -16,12 +16,14 @@ use Rattle.definitions.specs.Inner.Pairs.{pairs}
 use Rattle.definitions.proofs.Bound.{Bounded, Within, Within.barred, Within.answer, place-within, mergeMem-within}
 use Rattle.definitions.proofs.Stored.{place-storable, mergeMem-storable}
 use Rattle.records.proofs.Parts.{same-part, same-back, same-below, same-above}
-use Rattle.records.proofs.Usages.{same-at, at-move}
+use Rattle.records.proofs.Usages.{SameRun, same-at, at-move}
 use Rattle.report.proofs.Emitting.{emitted-after}
 use Rattle.states.specs.Calls.{Two, Done}
+use Rattle.states.specs.Fingers.{Finger}
 use Rattle.states.specs.States.{Beyond, entries, element, joins, spare, act, Numbers, Pending, Gave, Took}
 use Rattle.states.specs.declared.State.{State}
 use Rattle.states.specs.declared.Outcome.{Outcome}
+use Rattle.states.proofs.Fingers.{finger-move}
 use Rattle.states.proofs.Framing.{outside-kept}
 
 -- What a pair gives, if it is not refused
@@ -62,19 +64,27 @@ spare-more (joins z low mid high d) m n h = omega (arith, mul-le-mul-right (node
 
 module _ {setting : Setting} {goal : Result Usage} {rep₀ : List ℕ} {base : ℕ} {s rep : List ℕ} {st : State} {total : ℕ} (x e k : ℕ) (Q : Pending setting goal rep₀ base s rep st total)
     (N : Numbers st total) (len : length s ≡ total * 32) (ex : x ≡ st .x * 32) (ee : e ≡ (st .x + st .n + st .m) * 32) (ek : k ≡ e - x) where
+  within : st .x + st .n + st .m ≤ total
+  within = omega (arith, N .fits, N .high)
+
+  -- the first of the pair
+  first-part : SameRun s (st .x) (take k (drop x s)) 0 (st .n)
+  first-part i lt = same-at s (take k (drop x s)) (st .x + i) i (st .x + i) (0 + i) refl (omega arith) (same-part s x k (st .x) (st .n + st .m) i ex (omega arith) (omega arith))
+
+  pub finger-part : Finger (take k (drop x s)) 0 (st .n) (st .finger)
+  finger-part = finger-move s (take k (drop x s)) (st .x) 0 (st .n) (st .finger) first-part (Q .finger)
+
   pub two-part : Two (length (setting .table)) (take k (drop x s)) (st .n) (st .m) (Q .t) (Q .u)
   two-part =
-      let within : st .x + st .n + st .m ≤ total = omega (arith, N .fits, N .high) in
       let long : k ≡ (st .n + st .m) * 32 = omega arith in
       let t-count : nodes (Q .t) ≡ st .n = Q .t-count in
       let u-count : nodes (Q .u) ≡ st .m = Q .u-count in
       record {
-        len = length-take-le k (drop x s) (omega (arith, length-drop x s)) ∙ long;
+        len = length-take-le k (drop x s) (omega (arith, within, length-drop x s)) ∙ long;
         left-nodes = t-count;
         right-nodes = u-count;
         left-offset = Q .t-offset;
-        left = at-move (Q .t) s (take k (drop x s)) (st .x) 0 (Q .t-offset) (λ i lt.
-            same-at s (take k (drop x s)) (st .x + i) i (st .x + i) (0 + i) refl (omega arith) (same-part s x k (st .x) (st .n + st .m) i ex (omega arith) (omega arith))) (Q .t-stands);
+        left = at-move (Q .t) s (take k (drop x s)) (st .x) 0 (Q .t-offset) (λ i lt. first-part i (omega arith)) (Q .t-stands);
         right-offset = Q .u-offset;
         right = at-move (Q .u) s (take k (drop x s)) (st .x + st .n) (st .n) (Q .u-offset) (λ i lt.
             same-at s (take k (drop x s)) (st .x + (st .n + i)) (st .n + i) (st .x + st .n + i) (st .n + i) (omega arith) refl
@@ -85,20 +95,27 @@ module _ {setting : Setting} {goal : Result Usage} {rep₀ : List ℕ} {base : �
 
   module _ (y s₂ rep′ : List ℕ) (r : Outcome) (ly : length y ≡ length (take k (drop x s))) (back : s₂ ≡ take x s ++ (y ++ drop k (drop x s))) (few : r .nodes ≤ st .n + st .m)
       (near : base < 2 ^ 63) (d-fits : st .d ≤ max32) where
+    long : length y ≡ (st .n + st .m) * 32
+    long = ly ∙ two-part .len
+
+    part-back : SameRun y 0 s₂ (st .x) (r .nodes)
+    part-back i lt =
+        same-at y s₂ i (st .x + i) (0 + i) (st .x + i) (omega arith) refl
+        (rw back (same-back s y x k (st .x) (st .n + st .m) i ex (omega (arith, within)) (omega (arith, long)) (omega arith)))
+
+    pub finger-back : Finger y 0 (r .nodes) (r .finger) → Finger s₂ (st .x) (r .nodes) (r .finger)
+    finger-back = finger-move y s₂ 0 (st .x) (r .nodes) (r .finger) part-back
+
     gave : (z : Result Usage) → act setting (st .todo) (st .d) (Q .t) (Q .u) ≡ z → Done z y (r .refusal) (r .nodes) (r .pairings) rep (st .at) rep′ (r .at)
         → Gave (length (setting .table)) (Q .y) (Q .o) (Q .w) (Q .p) rep₀ base z s₂ rep′ st r
     gave (refused n) is D = D
     gave (done v w p) is D =
-        let within : st .x + st .n + st .m ≤ total = omega (arith, N .fits, N .high) in
-        let long : length y ≡ (st .n + st .m) * 32 = ly ∙ two-part .len in
         let count : nodes v ≡ r .nodes = D .count in
         let G = act-gives setting (length (setting .table)) (st .todo) (st .d) (Q .t) (Q .u) d-fits (Q .t-fits) (Q .u-fits) is in
         record {
           answered = D .answered;
           offset = D .offset;
-          stands = at-move v y s₂ 0 (st .x) (D .offset) (λ i lt.
-              same-at y s₂ i (st .x + i) (0 + i) (st .x + i) (omega arith) refl
-              (rw back (same-back s y x k (st .x) (st .n + st .m) i ex (omega arith) (omega arith) (omega arith)))) (D .stands);
+          stands = at-move v y s₂ 0 (st .x) (D .offset) (λ i lt. part-back i (omega arith)) (D .stands);
           count = count;
           fits = G .fits;
           pairs = D .pairs;
@@ -110,9 +127,7 @@ module _ {setting : Setting} {goal : Result Usage} {rep₀ : List ℕ} {base : �
     pub took : Done (act setting (st .todo) (st .d) (Q .t) (Q .u)) y (r .refusal) (r .nodes) (r .pairings) rep (st .at) rep′ (r .at)
         → Took setting goal rep₀ base s₂ rep′ st r total
     took D =
-        let within : st .x + st .n + st .m ≤ total = omega (arith, N .fits, N .high) in
-        let long : k ≡ (st .n + st .m) * 32 = omega arith in
-        let long′ : length y ≡ (st .n + st .m) * 32 = ly ∙ two-part .len in
+        let cut : k ≡ (st .n + st .m) * 32 = omega arith in
         record {
           y = Q .y;
           o = Q .o;
@@ -128,14 +143,14 @@ module _ {setting : Setting} {goal : Result Usage} {rep₀ : List ℕ} {base : �
           mark = Q .mark;
           at-was = Q .report .place;
           outside = outside-kept (length (setting .table)) (Q .y) s s₂ st (st .n + st .m) total
-              (λ i lt. rw back (same-below s y x k (st .x) i ex (omega arith) lt))
-              (λ i le. rw back (same-above s y x k (st .x) (st .n + st .m) i ex (omega arith) long long′ le))
+              (λ i lt. rw back (same-below s y x k (st .x) i ex (omega (arith, within)) lt))
+              (λ i le. rw back (same-above s y x k (st .x) (st .n + st .m) i ex (omega (arith, within)) cut long le))
               (omega (arith, N .fits)) (Q .outside);
         }
 
     pub len-back : length s₂ ≡ total * 32
     len-back =
-        let within : st .x + st .n + st .m ≤ total = omega (arith, N .fits, N .high) in
+        let inside : st .x + st .n + st .m ≤ total = within in
         let cut : length (take k (drop x s)) ≡ k = length-take-le k (drop x s) (omega (arith, length-drop x s)) in
         ap length back ∙ length-append (take x s) (y ++ drop k (drop x s))
         ∙ omega (arith, length-take-le x s (omega arith), length-append y (drop k (drop x s)), length-drop k (drop x s), length-drop x s)

@@ -16,6 +16,7 @@ use Rattle.records.specs.Words.{word}
 use Rattle.records.specs.Usages.{At}
 use Rattle.layout.specs.Places.{Placed}
 use Rattle.states.specs.Calls.{Ready, Near}
+use Rattle.states.specs.Fingers.{Finger}
 
 -- type 0 is a scalar of 4 bytes
 table : List ℕ
@@ -70,6 +71,20 @@ ready = record {
   left-some = omega arith;
   right-some = omega arith;
   small = omega arith;
+}
+
+-- the map's only entry begins at record 1
+finger : Finger both 0 2 1
+unfolding both row At word
+finger = record {
+  begins = λ _. record {
+    low = none;
+    high = entry 0 (leaf (fixed 4) true 0) none;
+    low-held = tt;
+    low-ends = refl;
+    high-held = (record { command = refl; nodes = refl; size = refl; argument = refl; offset = refl }, tt);
+    high-ends = refl;
+  };
 }
 
 near : Near 0 3

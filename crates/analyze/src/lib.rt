@@ -2,6 +2,7 @@
 ghost use mathlib.Core.Path.{_≡_};
 ghost use Prim.Native.Nat.{_+_, _*_, _≤_};
 ghost use lib.ListN.{length};
+ghost use Rattle.states.specs.Fingers.{Finger, Fingered};
 ghost use Rattle.states.specs.Calls.{Ready, Near, placing, merging, Placed};
 ghost use Rattle.analyze.specs.Tops.{Top};
 use qptr::Node;
@@ -25,7 +26,8 @@ fn top(s: &[u8], q: usize) -> Node
     }
 }
 
-// b, the nb records behind a's na, is placed in a at d. The result stands from record 0 on.
+// b, the nb records behind a's na, is placed in a at d. The result stands from record 0 on. `from` is 0, or a record at which an
+// entry of a begins: if a is a map and that entry ends by d, the search for those that overlap starts there.
 pub fn merge_mem_at(
     table: &[u8],
     places: &[u32],
@@ -35,13 +37,16 @@ pub fn merge_mem_at(
     nb: usize,
     rep: &mut [u8],
     at: usize,
+    from: usize,
 ) -> Outcome
     requires { ⌜ Ready (now table) (now places) (now s) na nb ⌝ }
     requires { ⌜ Near at (na + nb) ⌝ }
+    requires { ⌜ Finger (now s) 0 na from ⌝ }
     ensures { λ r. ⌜ Placed (placing d) (now (table .entry)) (now (places .entry)) (now (s .entry)) na nb (now (s .exit)) (r .refusal) (r .nodes) (r .pairings) (now (rep .entry)) at (now (rep .exit)) (r .at) ⌝ }
+    ensures { λ r. ⌜ Fingered (now (s .exit)) r ⌝ }
 {
     let total = na + nb;
-    let mut st = begin(table, places, s, na, d, nb, rep, at);
+    let mut st = begin(table, places, s, na, d, nb, rep, at, from);
     while st.todo != 0 {
         let x = st.x * 32;
         let e = (st.x + st.n + st.m) * 32;
@@ -49,7 +54,17 @@ pub fn merge_mem_at(
             let r = merge_mem(table, places, &mut s[x..e], st.n, st.m, rep, st.at);
             st = settle(s, st, r, rep, total);
         } else {
-            let r = merge_mem_at(table, places, &mut s[x..e], st.n, st.d, st.m, rep, st.at);
+            let r = merge_mem_at(
+                table,
+                places,
+                &mut s[x..e],
+                st.n,
+                st.d,
+                st.m,
+                rep,
+                st.at,
+                st.finger,
+            );
             st = settle(s, st, r, rep, total);
         }
     }
@@ -58,6 +73,7 @@ pub fn merge_mem_at(
         nodes: st.n,
         pairings: st.pairings,
         at: st.at,
+        finger: st.finger,
     }
 }
 
@@ -76,8 +92,8 @@ pub fn merge_mem(
     ensures { λ r. ⌜ Placed merging (now (table .entry)) (now (places .entry)) (now (s .entry)) na nb (now (s .exit)) (r .refusal) (r .nodes) (r .pairings) (now (rep .entry)) at (now (rep .exit)) (r .at) ⌝ }
 {
     if first_receives(top(s, 0), top(s, na)) {
-        return merge_mem_at(table, places, s, na, 0, nb, rep, at);
+        return merge_mem_at(table, places, s, na, 0, nb, rep, at, 0);
     }
     exchange(s, na, nb);
-    merge_mem_at(table, places, s, nb, 0, na, rep, at)
+    merge_mem_at(table, places, s, nb, 0, na, rep, at, 0)
 }

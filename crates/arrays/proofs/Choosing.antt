@@ -44,6 +44,7 @@ module _ (s rep : List ℕ) (na d nb at : ℕ) (B : Beside s na nb) (plain : Pla
         next = λ setting a b two short. record {
           ends = λ z. absurd (omega (arith, some-todo (d % argumentIn s 0)));
           goes = λ _. go setting (m .1) (left-array two is) b two;
+          finger = λ z. absurd (omega (arith, some-todo (d % argumentIn s 0)));
         };
       })
     where
@@ -68,6 +69,7 @@ module _ (s rep : List ℕ) (na d nb at : ℕ) (B : Beside s na nb) (plain : Pla
         next = λ setting a b two short. record {
           ends = λ z. absurd (omega arith);
           goes = λ _. go setting m (left-array two is) (right-array two command) two;
+          finger = λ z. absurd (omega arith);
         };
       })
     where

@@ -12,6 +12,7 @@ use Rattle.definitions.specs.Inner.Storable.{Storable}
 use Rattle.records.specs.Usages.{At}
 use Rattle.report.proofs.Emitting.{emitted-nothing}
 use Rattle.states.specs.States.{element, Outside, act, Pending, Numbers}
+use Rattle.states.proofs.Fingers.{no-finger}
 use Rattle.states.proofs.Room.{room-first}
 use Rattle.arrays.specs.Arrays.{elementTodo, elementState}
 use Rattle.arrays.proofs.Elements.{resume-element}
@@ -56,6 +57,7 @@ module _ (setting : Setting) (s rep : List ℕ) (na m r at : ℕ) (z : Size) (n 
         based = refl;
         mark = omega arith;
         report = emitted-nothing rep at small;
+        finger = no-finger s 1 (na - 1);
         outside = record {
           rule = refl;
           start = refl;

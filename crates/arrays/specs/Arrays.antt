@@ -57,6 +57,7 @@ elementState n m r at = record {
   base = at;
   mark = at;
   at = at;
+  finger = 0;
 }
 
 -- rule 5's array stands around what its element has become; nothing is reported here

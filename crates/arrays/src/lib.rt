@@ -108,6 +108,7 @@ fn with_element(n: usize, m: usize, r: u32, at: usize) -> State
         base: at,
         mark: at,
         at: at,
+        finger: 0,
     }
 }
 

@@ -184,6 +184,7 @@ pub fn place(
         t.second,
         rep,
         0,
+        0,
     );
     finish(MEMORY, r, work, output, rep)
 }

@@ -12,9 +12,11 @@ use Rattle.records.specs.Records.{commandIn}
 use Rattle.records.specs.Usages.{At}
 use Rattle.report.specs.Emitted.{Emitted}
 use Rattle.states.specs.Calls.{Two}
+use Rattle.states.specs.Fingers.{Finger}
 use Rattle.states.specs.States.{entries, Placing, Outside, Next, Short, Waiting, Moves}
 use Rattle.states.specs.Starts.{Beside, Starts}
 use Rattle.states.specs.declared.State.{State}
+use Rattle.states.proofs.Fingers.{no-finger}
 use Rattle.states.proofs.Roots.{IsMap, is-map, right-map}
 use Rattle.states.proofs.Room.{room-first}
 use Rattle.entries.specs.Rows.{Rows}
@@ -38,6 +40,7 @@ startState na nb at = record {
   base = at;
   mark = at;
   at = at;
+  finger = 0;
 }
 
 placing-start : {k : ℕ} {s : List ℕ} {na nb : ℕ} {a : Usage} {z : Size} {es : Entries} (at : ℕ) → Two k s na nb a (map z es)
@@ -48,6 +51,7 @@ placing-start {s} {na} {nb} {es} at two =
     let behind : suc na ≡ na + 1 = omega arith in
     record {
       rule = refl;
+      asks = omega arith;
       start = refl;
       held = rw behind at (two .right .1);
       count = omega arith;
@@ -57,11 +61,11 @@ placing-start {s} {na} {nb} {es} at two =
     }
 
 pub waiting-start : (s : List ℕ) (na nb at : ℕ) → Beside s na nb → commandIn s na ≡ 3
-    → Waiting s (startState na nb at) na (na + nb) × Rows s (startState na nb at) (na + nb)
+    → Waiting s (startState na nb at) na (na + nb) × (Rows s (startState na nb at) (na + nb) × Finger s 0 na 0)
 unfolding Outside
 waiting-start s na nb at B e = go (right-map (B .two) e) (B .two)
   where
-    go : {b : Usage} → IsMap b → Two (B .k) s na nb (B .a) b → Waiting s (startState na nb at) na (na + nb) × Rows s (startState na nb at) (na + nb)
+    go : {b : Usage} → IsMap b → Two (B .k) s na nb (B .a) b → Waiting s (startState na nb at) na (na + nb) × (Rows s (startState na nb at) (na + nb) × Finger s 0 na 0)
     go (is-map z es) two =
         let W : Waiting s (startState na nb at) na (na + nb) = record {
           k = B .k;
@@ -79,7 +83,7 @@ waiting-start s na nb at B e = go (right-map (B .two) e) (B .two)
           len = two .len;
           small = B .small;
         } in
-        (W, rows s (startState na nb at) na (na + nb) W refl)
+        (W, (rows s (startState na nb at) na (na + nb) W refl, no-finger s 0 na))
 
 -- what the steps then leave is what rule 2 gives
 pub starts : (s rep rep₁ s′ rep′ : List ℕ) (na nb at at₁ : ℕ) (st : State) → Beside s na nb → commandIn s na ≡ 3 → Emitted rep at (0x30 ∷ []) rep₁ at₁

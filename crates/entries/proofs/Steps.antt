@@ -1,4 +1,4 @@
--- A step of rule 2: the entry at q moves down beside the result, which lies below it, and the other entries stay where they are.
+-- A step of rule 2: the entry at q moves down beside the result, which lies below it, and the other entries stay where they are. The result stays too, and with it the finger.
 -- Assumes nothing.
 use Prim.Native.Nat.{ℕ, _+_, _-_}
 use mathlib.Core.Path.{_≡_, refl, sym, ap, _∙_}
@@ -17,8 +17,10 @@ use Rattle.report.specs.Emitted.{Emitted}
 use Rattle.report.proofs.Emitting.{emitted-after}
 use Rattle.states.specs.States.{Beyond, entries, finish, Outside, Standing, Pending, Next, Short, Waiting, Moves}
 use Rattle.states.specs.Ends.{finishedState, Unheaded}
+use Rattle.states.specs.Fingers.{Finger}
 use Rattle.states.specs.declared.State.{State}
 use Rattle.states.proofs.Ending.{numbers-finished, next-finished, emitted-unheaded}
+use Rattle.states.proofs.Fingers.{finger-move}
 use Rattle.states.proofs.Outside.{Placings, placings, outside-2}
 use Rattle.entries.specs.Rows.{First, Rows}
 use Rattle.entries.proofs.Resuming.{finish-none, resume-entry}
@@ -37,8 +39,8 @@ rows s st n total W e = go (outside-2 (W .k) s st total (W .y) e (W .outside))
     go (placings es h) = record { rule = e; start = h .start; ends = h .ends; first = first-count es s (st .q) (st .rest) (h .held) (h .count) }
 
 -- the state for the next entry, of m nodes at o: the report stood at `mark` before its 31
-abbrev pub entryState : State → ℕ → ℕ → ℕ → ℕ → ℕ → ℕ → State
-entryState st n o m pairings mark at = record {
+abbrev pub entryState : State → ℕ → ℕ → ℕ → ℕ → ℕ → ℕ → ℕ → State
+entryState st n o m pairings mark at finger = record {
   refusal = 0;
   todo = 1;
   rule = 2;
@@ -54,6 +56,7 @@ entryState st n o m pairings mark at = record {
   base = st .base;
   mark = mark;
   at = at;
+  finger = finger;
 }
 
 module _ (s rep : List ℕ) (st : State) (n p at total : ℕ) (W : Waiting s st n total) (R : Rows s st total) where
@@ -81,11 +84,11 @@ module _ (s rep : List ℕ) (st : State) (n p at total : ℕ) (W : Waiting s st 
   })
 
   -- the entry at q has moved down
-  module _ (s₁ rep₁ : List ℕ) (m o at′ : ℕ) (some : st .rest ≡ 0 → ⊥) (em : m ≡ countIn s (st .q)) (eo : o ≡ offsetIn s (st .q))
-      (M : Moved s s₁ n (st .q) m) (E : Emitted rep at (0x31 ∷ bytes 4 o) rep₁ at′) where
+  module _ (s₁ rep₁ : List ℕ) (m o at′ finger : ℕ) (some : st .rest ≡ 0 → ⊥) (em : m ≡ countIn s (st .q)) (eo : o ≡ offsetIn s (st .q))
+      (M : Moved s s₁ n (st .q) m) (F : Finger s (st .x) n finger) (E : Emitted rep at (0x31 ∷ bytes 4 o) rep₁ at′) where
     goes-more : {y : Beyond} (setting : Setting) → Placings (length (setting .table)) s st total y → (u : Usage) (w : List ℕ) (q : ℕ) (rep₀ : List ℕ) (base : ℕ)
         → Standing (length (setting .table)) y u w q rep₀ base s rep st n p at total
-        → Pending setting (finish setting y u w q) rep₀ base s₁ rep₁ (entryState st n o m p at at′) total
+        → Pending setting (finish setting y u w q) rep₀ base s₁ rep₁ (entryState st n o m p at at′ finger) total
     unfolding At Outside
     goes-more setting (placings none h) u w q rep₀ base S = absurd (some (omega (arith, h .count)))
     goes-more setting (placings (entry o′ v es) h) u w q rep₀ base S =
@@ -115,8 +118,10 @@ module _ (s rep : List ℕ) (st : State) (n p at total : ℕ) (W : Waiting s st 
           based = S .based;
           mark = S .report .place;
           report = emitted-after (S .report) E;
+          finger = finger-move s s₁ 0 0 n finger (λ i lt. M .below (0 + i) (omega arith)) (rw (R .start) at F);
           outside = record {
             rule = refl;
+            asks = omega arith;
             start = refl;
             held = rw v-count at (entries-move es s s₁ (st .q + nodes v) (st .q + nodes v) (λ i lt. M .above (st .q + nodes v + i) (omega (arith, W .less))) (h .held .1));
             count = omega (arith, h .count);
@@ -126,7 +131,7 @@ module _ (s rep : List ℕ) (st : State) (n p at total : ℕ) (W : Waiting s st 
           };
         }
 
-    pub next-more : Moves s rep st n p at total s₁ rep₁ (entryState st n o m p at at′)
+    pub next-more : Moves s rep st n p at total s₁ rep₁ (entryState st n o m p at at′ finger)
     next-more =
         let first : First s (st .q) (st .rest) = R .first some in
         record {
@@ -142,5 +147,6 @@ module _ (s rep : List ℕ) (st : State) (n p at total : ℕ) (W : Waiting s st 
           next = λ setting y u w q rep₀ base S short. record {
             ends = λ z. absurd (omega arith);
             goes = λ _. goes-more setting (outside-2 (length (setting .table)) s st total y (R .rule) (S .outside)) u w q rep₀ base S;
+            finger = λ z. absurd (omega arith);
           };
         }

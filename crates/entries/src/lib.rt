@@ -3,6 +3,7 @@ ghost use mathlib.Core.Path.{_≡_};
 ghost use Prim.Native.Nat.{_+_, _*_, _≤_};
 ghost use lib.ListN.{length};
 ghost use Rattle.records.specs.Records.{commandIn, countIn};
+ghost use Rattle.states.specs.Fingers.{Finger};
 ghost use Rattle.states.specs.States.{Waiting, Moves};
 ghost use Rattle.states.specs.Starts.{Beside, Starts};
 ghost use Rattle.entries.specs.Rows.{First, Rows};
@@ -21,7 +22,8 @@ fn entry_nodes(s: &[u8], q: usize, rest: usize) -> usize
     nodes(s, q)
 }
 
-// The result so far stands at 0, with n nodes; the next entry comes beside it.
+// The result so far stands at 0, with n nodes; the next entry comes beside it. It goes above the last, so that one's finger is
+// handed on.
 pub fn next_entry(
     s: &mut [u8],
     st: State,
@@ -29,10 +31,12 @@ pub fn next_entry(
     pairings: u32,
     rep: &mut [u8],
     at: usize,
+    finger: usize,
     total: usize,
 ) -> State
     requires { ⌜ Waiting (now s) st n total ⌝ }
     requires { ⌜ Rows (now s) st total ⌝ }
+    requires { ⌜ Finger (now s) (st .x) n finger ⌝ }
     ensures { λ r. ⌜ Moves (now (s .entry)) (now (rep .entry)) st n pairings at total (now (s .exit)) (now (rep .exit)) r ⌝ }
 {
     let q = st.q;
@@ -62,6 +66,7 @@ pub fn next_entry(
         base: st.base,
         mark: at,
         at: next,
+        finger: finger,
     }
 }
 
@@ -87,7 +92,8 @@ pub fn begin_entries(s: &mut [u8], na: usize, nb: usize, rep: &mut [u8], at: usi
         base: at,
         mark: at,
         at: at,
+        finger: 0,
     };
     let next = report::byte(rep, at, 0x30);
-    next_entry(s, st, na, 1, rep, next, na + nb)
+    next_entry(s, st, na, 1, rep, next, 0, na + nb)
 }

@@ -69,7 +69,7 @@ pub record Folding (st : Setting) (ns : Nodes) (list : List ℕ) (count : ℕ) (
 -- The first node
 
 abbrev start : Loaded → Folded
-start l = record { end = l .end; result = record { refusal = 0; nodes = l .nodes; pairings = 0; at = 0 } }
+start l = record { end = l .end; result = record { refusal = 0; nodes = l .nodes; pairings = 0; at = 0; finger = 0 } }
 
 module _ {table places list : List ℕ} {st : Setting} {ns : Nodes} (foldable : Foldable table places list st ns) where
   pub count-inside : 3 ≤ length list

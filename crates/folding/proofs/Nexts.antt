@@ -67,11 +67,11 @@ module _ {table places list : List ℕ} {f : Folded} {work : List ℕ} (ready : 
       pub next-merges : Ready table places (lent (f .result .nodes) (next .nodes) work₁) (f .result .nodes) (next .nodes)
       next-merges = ready-lent (ready .beside .known) (next-two (ready .setting) (ready .a) (ready .b) (ready .rest) (ready .beside)) (omega (arith, next-few))
 
-      module _ {s′ : List ℕ} (i : ℕ) {rep rep₁ rep₂ : List ℕ} {at : ℕ} {r : Outcome} (long : length s′ ≡ length (lent (f .result .nodes) (next .nodes) work₁))
+      module _ {s′ : List ℕ} (i : ℕ) {rep rep₁ rep₂ : List ℕ} {at : ℕ} (r : Outcome) (long : length s′ ≡ length (lent (f .result .nodes) (next .nodes) work₁))
           (placed : Placed merging table places (lent (f .result .nodes) (next .nodes) work₁) (f .result .nodes) (next .nodes) s′ (r .refusal) (r .nodes) (r .pairings) rep₁ at rep₂ (r .at)) where
         pub next-folded : {p at′ : ℕ} → p ≡ (f .result .pairings + r .pairings) % 2 ^ 32
             → ((w : List ℕ) → length w < 2 ^ 61 → Emitted rep₁ at w rep₂ (r .at) → Emitted rep (f .result .at) (ofNode i w) rep₂ at′)
-            → NextFolded table places list i f work rep (back (f .result .nodes) (next .nodes) s′ work₁) rep₂ (record { end = next .end; result = record { refusal = r .refusal; nodes = r .nodes; pairings = p; at = at′ } })
+            → NextFolded table places list i f work rep (back (f .result .nodes) (next .nodes) s′ work₁) rep₂ (record { end = next .end; result = record { refusal = r .refusal; nodes = r .nodes; pairings = p; at = at′; finger = 0 } })
         unfolding merging
         next-folded {p} {at′} sum report = record {
           merged = λ st a b rest beside. go st a b rest beside (mergeMem st a b) refl (placed .done st (beside .known) a b (next-two st a b rest beside));

@@ -72,6 +72,7 @@ fn fold_next(
             nodes: r.nodes,
             pairings: std::num::wrapping_add_u32(f.result.pairings, r.pairings),
             at: if r.at == at { f.result.at } else { r.at },
+            finger: 0,
         },
     }
 }
@@ -96,6 +97,7 @@ pub fn fold_nodes(
             nodes: first.nodes,
             pairings: 0,
             at: 0,
+            finger: 0,
         },
     };
     let mut i = 1;

@@ -130,6 +130,7 @@ startState found d nb at = record {
   base = at;
   mark = at;
   at = at;
+  finger = 0;
 }
 
 -- s₁: b has come to stand behind the entries that overlap

@@ -1,7 +1,7 @@
 -- Nothing is left to be joined, or a straddle: what is left of the map stands, and its report, with 30 before it or 36 in its place.
 -- Assumes nothing.
-use Prim.Native.Nat.{ℕ, _+_, _-_, _<_, _≤_}
-use mathlib.Core.Path.{_≡_, refl, _∙_}
+use Prim.Native.Nat.{ℕ, suc, _+_, _-_, _<_, _≤_}
+use mathlib.Core.Path.{_≡_, refl, ap, _∙_}
 use mathlib.Core.List.{List, []}
 use native.Mathlib.Omega.{arith}
 use Rattle.definitions.specs.Usage.{Size, Usage, map, Entries, none, entry, size, nodes, nodesIn, _<+>_}
@@ -10,18 +10,20 @@ use Rattle.definitions.specs.Inner.Storable.{Ascends}
 use Rattle.definitions.proofs.Nodes.{append-nodes}
 use Rattle.records.specs.Records.{offsetIn, Same, Shifted, Moved}
 use Rattle.records.specs.Usages.{At, EntriesAt}
-use Rattle.records.proofs.Usages.{same-trans, at-move, at-offset, entries-move, one-entry, entries-join}
+use Rattle.records.proofs.Usages.{same-trans, at-move, at-offset, entries-move, one-entry, entries-split, entries-join}
 use Rattle.report.specs.Emitted.{Emitted}
 use Rattle.report.proofs.Emitting.{emitted-over}
 use Rattle.states.specs.States.{joins, finish, Joins, Waiting, Moves}
-use Rattle.states.specs.Ends.{finishedState, Unheaded}
+use Rattle.states.specs.Ends.{finishedState, finishedAt, Unheaded}
+use Rattle.states.specs.Fingers.{Between, Finger}
 use Rattle.states.specs.declared.State.{State}
-use Rattle.states.proofs.Ending.{numbers-finished, next-finished, emitted-unheaded}
+use Rattle.states.proofs.Ending.{numbers-finished, next-at, next-finished, emitted-unheaded}
 use Rattle.maps.specs.Runs.{LastAt}
 use Rattle.maps.specs.Joining.{Rows, Closed, GoesAt, GoesOn, apart, Joint, Straddled}
 use Rattle.maps.proofs.Entries.{append-assoc, no-nodes}
 use Rattle.maps.proofs.Downward.{finish-straddled, finish-none}
 use Rattle.maps.proofs.Inserting.{insert-between}
+use Rattle.maps.proofs.Replacing.{Behind, last-kept}
 use Rattle.maps.proofs.Stepping.{by-joins, taken, finish-joint}
 
 pub straddled : {s rep : List ℕ} {st : State} {l pairings total : ℕ} {s′ rep′ : List ℕ} {st′ : State} {o all next : ℕ} → o ≡ offsetIn s l → Closed s l (st .q) total s′ all
@@ -67,6 +69,26 @@ module _ (s s₁ s₂ s₃ : List ℕ) (st : State) (n pairings at total to q al
   record Whole (z : Size) (low high : Entries) (b : Usage) : Type 0 where
     stands : At (map z (insert (st .offset) b (low <+> high))) s₃ 0 (offsetIn s₂ 0)
     count : nodes (map z (insert (st .offset) b (low <+> high))) ≡ all
+    finger : Finger s₃ 0 all (st .low)
+
+  last-finger : (z : Size) (es fs : Entries) (o l : ℕ) → At (map z (es <+> fs)) s₃ 0 o → nodes (map z (es <+> fs)) ≡ all → ((l ≡ 0 → ⊥) → Behind es l) → Finger s₃ 0 all l
+  unfolding At
+  last-finger z es fs o l stands count behind = record { begins = λ some. go (behind some) }
+    where
+      go : Behind es l → Between s₃ 0 all l
+      go K =
+          let is : es <+> fs ≡ K .pre <+> (K .left <+> fs) = ap (λ x. x <+> fs) (K .is) ∙ append-assoc (K .pre) (K .left) fs in
+          let parts = entries-split (K .pre) (K .left <+> fs) s₃ 1 (rw is at (stands .1)) in
+          let here : 1 + nodesIn (K .pre) ≡ 0 + l = omega (arith, K .count) in
+          let all-is : suc (nodesIn (K .pre <+> (K .left <+> fs))) ≡ all = rw is at count in
+          record {
+            low = K .pre;
+            high = K .left <+> fs;
+            low-held = parts .0;
+            low-ends = K .count;
+            high-held = rw here at (parts .1);
+            high-ends = omega (arith, K .count, append-nodes (K .pre) (K .left <+> fs));
+          }
 
   whole : {k : ℕ} {z : Size} {low mid high : Entries} (b : Usage) (o : ℕ) → Joins k z low mid high (st .offset) s st total → At b s (st .x) o → nodes b ≡ n → Whole z low high b
   whole {k} {z} {low} {mid} {high} b o J stands count =
@@ -83,13 +105,13 @@ module _ (s s₁ s₂ s₃ : List ℕ) (st : State) (n pairings at total to q al
       entries-join low′ (entry d b none) s₂ 1 (entries-move low′ s s₂ 1 1 (λ i lt. kept-below (1 + i) (omega (arith, below .count))) (below .held)) (rw (below .count) (one-entry d b s₂ to moved)) in
       let top = kept-below 0 (omega (arith, G .some)) in
       let both = append-nodes low′ (entry d b none) in
-      record {
-        stands = rw (made, ← append-assoc low′ (entry d b none) high′) (C .made z (low′ <+> entry d b none) high′ (top .command ∙ J .command) (top .size ∙ J .sized) held (omega (arith, below .count))
-            (entries-move high′ s s₂ q q (λ i lt. kept-above (q + i) (omega (arith, H .from))) (above .held)) (above .count));
-        count = rw made (omega (arith, append-nodes low′ (entry d b high′), below .count, above .count, C .count));
-      }
+      let result : At (map z (low′ <+> entry d b high′)) s₃ 0 (offsetIn s₂ 0) =
+      rw (← append-assoc low′ (entry d b none) high′) (C .made z (low′ <+> entry d b none) high′ (top .command ∙ J .command) (top .size ∙ J .sized) held (omega (arith, below .count))
+      (entries-move high′ s s₂ q q (λ i lt. kept-above (q + i) (omega (arith, H .from))) (above .held)) (above .count)) in
+      let counted : nodes (map z (low′ <+> entry d b high′)) ≡ all = omega (arith, append-nodes low′ (entry d b high′), below .count, above .count, C .count) in
+      record { stands = rw made result; count = rw made counted; finger = last-finger z low′ (entry d b high′) (offsetIn s₂ 0) (st .low) result counted (last-kept (below .is) (J .low-last)) }
 
-  pub ends : (rep : List ℕ) {st′ : State} → st′ ≡ finishedState all pairings next → Moves s rep st n pairings at total s₃ rep st′
+  pub ends : (rep : List ℕ) {st′ : State} → st′ ≡ finishedAt all pairings next (st .low) → Moves s rep st n pairings at total s₃ rep st′
   ends rep f = rw f (record {
     numbers = numbers-finished all pairings next total (omega (arith, C .count, G .some)) (omega (arith, C .count, G .upto, W .within, W .high, H .from, H .upto));
     fall = omega arith;
@@ -99,12 +121,12 @@ module _ (s s₁ s₂ s₃ : List ℕ) (st : State) (n pairings at total to q al
         let goal = finish-none setting z low high d b w p nothing in
         let fits = rw goal at short in
         let B = whole b (S .offset) J (S .stands) (S .count) in
-        rw goal (next-finished setting rep₀ base s₃ rep total (after [] 1 (done (map z (insert d b (low <+> high))) (ofRule w) p)) all pairings next (record {
+        rw goal (next-at setting rep₀ base s₃ rep total (after [] 1 (done (map z (insert d b (low <+> high))) (ofRule w) p)) all pairings next (st .low) (record {
           answered = refl;
           offset = offsetIn s₂ 0;
           stands = B .stands;
           count = B .count;
           pairs = omega (arith, S .pairs);
           report = emitted-unheaded w (S .report) (fits .0) (rw (S .based) at U);
-        })));
+        }) (B .finger)));
   })

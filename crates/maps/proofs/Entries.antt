@@ -75,6 +75,39 @@ run-rest {q′} R lt H eq =
     let F = first-of (R .es) {q′ = q′} lt (R .held) (R .ends) (H .is) eq in
     record { es = F .rest; held = F .held; ends = F .ends }
 
+-- A part of them
+
+-- es is pre, up to q, and then left
+pub record Before (es : Entries) (s : List ℕ) (from e q : ℕ) : Type 0 where
+  pub pre : Entries
+  pub left : Entries
+  pub is : es ≡ pre <+> left
+  pub pre-held : EntriesAt pre s from
+  pub pre-count : from + nodesIn pre ≡ q
+  pub held : EntriesAt left s q
+  pub ends : q + nodesIn left ≡ e
+
+-- where some end, one of any others begins that stand in the same place: the records count the nodes of both
+pub before-at : (fs es : Entries) (s : List ℕ) (from q e : ℕ) → EntriesAt fs s from → from + nodesIn fs ≡ q → EntriesAt es s from → from + nodesIn es ≡ e → q ≤ e
+    → Before es s from e q
+unfolding At
+before-at none es s from q e f ef h en le =
+    let here : from ≡ q = omega arith in
+    record { pre = none; left = es; is = refl; pre-held = tt; pre-count = ef; held = rw here at h; ends = omega arith }
+before-at (entry o v fs) es s from q e f ef h en le =
+    let root = root-of v s from o (f .0) .1 in
+    let F = first-of es {q′ = from + nodes v} (omega (arith, some-node v)) h en (sym (root .nodes)) refl in
+    let B = before-at fs (F .rest) s (from + nodes v) q e (f .1) (omega arith) (F .held) (F .ends) le in
+    record {
+      pre = entry (offsetIn s from) (F .u) (B .pre);
+      left = B .left;
+      is = F .is ∙ ap (entry (offsetIn s from) (F .u)) (B .is);
+      pre-held = (F .stands, rw (F .size) (B .pre-held));
+      pre-count = omega (arith, F .size, B .pre-count);
+      held = B .held;
+      ends = B .ends;
+    }
+
 -- Offsets
 
 pub under-of : (k : ℕ) (es : Entries) (o : ℕ) (u : Usage) (fs : Entries) (p : ℕ) → Ascends k p (es <+> entry o u fs) → Under o es

@@ -10,17 +10,7 @@ use Rattle.records.specs.Records.{offsetIn}
 use Rattle.records.specs.Usages.{EntriesAt}
 use Rattle.records.proofs.Usages.{one-entry, entries-join}
 use Rattle.maps.specs.Runs.{Run, FirstHas, LastAt}
-use Rattle.maps.proofs.Entries.{append-assoc, no-nodes, first-of, run-rest}
-
--- es is pre, up to q, and then left
-record Before (es : Entries) (s : List ℕ) (from e q : ℕ) : Type 0 where
-  pre : Entries
-  left : Entries
-  is : es ≡ pre <+> left
-  pre-held : EntriesAt pre s from
-  pre-count : from + nodesIn pre ≡ q
-  held : EntriesAt left s q
-  ends : q + nodesIn left ≡ e
+use Rattle.maps.proofs.Entries.{append-assoc, no-nodes, first-of, run-rest, Before}
 
 -- whatever entries stand there, one of them begins at q, and has m nodes
 pub record Seeking (s : List ℕ) (from e q m : ℕ) : Type 0 where

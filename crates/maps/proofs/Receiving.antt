@@ -13,6 +13,7 @@ use Rattle.report.specs.Emitted.{Emitted}
 use Rattle.report.proofs.Emitting.{emitted-after}
 use Rattle.states.specs.States.{joins, act, Outside, Waiting, Moves}
 use Rattle.states.specs.declared.State.{State}
+use Rattle.states.proofs.Fingers.{no-finger}
 use Rattle.states.proofs.Room.{spare-last}
 use Rattle.maps.specs.Runs.{LastAt}
 use Rattle.maps.specs.Joining.{Rows, Turned, intoEntry, intoB, Joint, entryState, bState, EntryTook, BTook}
@@ -51,6 +52,7 @@ module _ (s rep : List ℕ) (st : State) (n pairings at total l : ℕ) (W : Wait
         let A = taken J L in
         record {
           ends = λ e. absurd (omega arith);
+          finger = λ e. absurd (omega arith);
           goes = λ _. record {
             y = joins z low (A .init) high o;
             o = o;
@@ -73,6 +75,7 @@ module _ (s rep : List ℕ) (st : State) (n pairings at total l : ℕ) (W : Wait
             based = S .based;
             mark = S .report .place;
             report = emitted-after (S .report) (T .report);
+            finger = no-finger s l (st .x - l);
             outside = joins-next J A s _ (λ i lt. itself s i) (λ i le. itself s i) o refl refl refl refl refl refl
                 (under-upto low (omega arith) (A .low-under)) (from-less high (omega arith) (J .high-from)) (A .offset-fits);
           };
@@ -100,6 +103,7 @@ module _ (s rep : List ℕ) (st : State) (n pairings at total l : ℕ) (W : Wait
         let here : l + m ≡ st .x = omega (arith, L .high) in
         record {
           ends = λ e. absurd (omega arith);
+          finger = λ e. absurd (omega arith);
           goes = λ _. record {
             y = joins z low (A .init) high d;
             o = o;
@@ -122,6 +126,7 @@ module _ (s rep : List ℕ) (st : State) (n pairings at total l : ℕ) (W : Wait
             based = S .based;
             mark = S .report .place;
             report = emitted-after (S .report) (T .report);
+            finger = no-finger s′ l n;
             outside = joins-next J A s′ _ (T .turned .below) (λ i le. T .turned .above i (omega (arith, W .within))) d refl refl refl refl refl refl (J .low-by) (J .high-from) (J .offset-fits);
           };
         });

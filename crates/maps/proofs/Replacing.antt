@@ -1,7 +1,7 @@
--- Of the entries next to b, one at its offset gives way: below it can only be the last, above it only the first.
+-- Of the entries next to b, one at its offset gives way: below it can only be the last, above it only the first. Where the last below began an entry still begins.
 -- Assumes nothing.
 use Prim.Native.Nat.{ℕ, _+_, _<_, _≤_}
-use mathlib.Core.Path.{_≡_, sym, ap, _∙_}
+use mathlib.Core.Path.{_≡_, refl, sym, ap, _∙_}
 use mathlib.Core.List.{List}
 use native.Mathlib.Omega.{arith}
 use Rattle.definitions.specs.Usage.{Usage, Entries, none, entry, nodesIn, _<+>_}
@@ -12,7 +12,7 @@ use Rattle.records.proofs.Usages.{root-of, first-entry, entries-split}
 use Rattle.states.specs.States.{UpTo, FromOn, lastFrom}
 use Rattle.maps.specs.Runs.{FirstHas}
 use Rattle.maps.specs.Joining.{Under, Over, Lowered, Lowered.whole, Lowered.short, Raised, Raised.whole, Raised.short, KeptBelow, GoesAt, GoesOn}
-use Rattle.maps.proofs.Entries.{append-assoc, no-nodes, last-snoc, first-of, under-of, upto-last}
+use Rattle.maps.proofs.Entries.{append-assoc, append-none, no-nodes, last-snoc, first-of, under-of, upto-last}
 
 -- Below
 
@@ -21,6 +21,13 @@ data Last : Entries → Type 0 where
   nothing : Last none
   at : (es : Entries) (o : ℕ) (u : Usage) → Last (es <+> entry o u none)
 
+-- of es, which stand from record 1 on, one begins at record l, or they end there
+pub record Behind (es : Entries) (l : ℕ) : Type 0 where
+  pub pre : Entries
+  pub left : Entries
+  pub is : es ≡ pre <+> left
+  pub count : 1 + nodesIn pre ≡ l
+
 last-more : (o : ℕ) (u : Usage) {es : Entries} → Last es → Last (entry o u es)
 last-more o u nothing = at none o u
 last-more o u (at es o′ u′) = at (entry o u es) o′ u′
@@ -28,6 +35,15 @@ last-more o u (at es o′ u′) = at (entry o u es) o′ u′
 last-of : (es : Entries) → Last es
 last-of none = nothing
 last-of (entry o u es) = last-more o u (last-of es)
+
+-- the last of those below began at l
+pub last-kept : {d : ℕ} {es kept : Entries} {l : ℕ} → Lowered d es kept → l ≡ lastFrom 0 1 es → (l ≡ 0 → ⊥) → Behind kept l
+last-kept {l} (Lowered.whole es u) e some = go (last-of es) e
+  where
+    go : {es : Entries} → Last es → l ≡ lastFrom 0 1 es → Behind es l
+    go nothing z = absurd (some z)
+    go (at es o u) z = record { pre = es; left = entry o u none; is = refl; count = sym (z ∙ last-snoc es o u 0 1) }
+last-kept {d} (Lowered.short es u h) e some = record { pre = es; left = none; is = sym (append-none es); count = sym (e ∙ last-snoc es d u 0 1) }
 
 under-one-more : (es : Entries) (o d : ℕ) (u : Usage) → Under o es → o < d → Under d (es <+> entry o u none)
 under-one-more none o d u h lt = (lt, tt)

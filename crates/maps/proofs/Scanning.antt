@@ -1,4 +1,5 @@
--- The search upwards, entry by entry: one that ends by d ends the entries below and begins the run anew, and any other lengthens the run.
+-- The search upwards, entry by entry: one that ends by d ends the entries below and begins the run anew, and any other lengthens the run. So the search may
+-- begin at any entry that starts before e and ends by d.
 -- Assumes nothing.
 use Prim.Native.Nat.{ℕ, _+_, _<_, _≤_}
 use mathlib.Core.Path.{_≡_, refl, sym, subst, ap, _∙_}
@@ -14,23 +15,14 @@ use Rattle.definitions.proofs.Storable.{ascends-back}
 use Rattle.records.specs.Records.{sizeIn, offsetIn}
 use Rattle.records.specs.Usages.{EntriesAt}
 use Rattle.records.proofs.Usages.{root-of, one-entry, entries-join}
+use Rattle.states.specs.Fingers.{Finger}
 use Rattle.maps.specs.Numbers.{Marks}
 use Rattle.maps.specs.Runs.{Run, FirstHas}
-use Rattle.maps.specs.Search.{Crossing, anyPast, nothing, by, Starting, Passed, Entered, Parts}
+use Rattle.maps.specs.Search.{Crossing, anyPast, nothing, by, Starting, Passed, Scanned, Entered, Parts}
 use Rattle.maps.specs.declared.Overlap.{Overlap}
-use Rattle.maps.proofs.Entries.{append-assoc, no-nodes, last-snoc, First, first-of, run-rest}
+use Rattle.maps.proofs.Entries.{append-assoc, no-nodes, last-snoc, First, first-of, run-rest, Before, before-at}
 use Rattle.maps.proofs.Marking.{marks-fixed, marks-le, marks-lt}
 use Rattle.maps.proofs.Overlaps.{starting}
-
--- whatever entries stand there, the search has passed those before record q
-pub record Scanned (s : List ℕ) (na d e q : ℕ) (found : Overlap) : Type 0 where
-  pub some : 1 ≤ found .first
-  pub lowest : found .low < found .first
-  pub mid : found .first ≤ q
-  pub upto : found .upto ≡ q
-  pub high : q ≤ na
-  pub run : Run s q na
-  pub passed : (k : ℕ) (z : Size) (es : Entries) → Marks e z → EntriesAt es s 1 → 1 + nodesIn es ≡ na → Ascends k 0 es → Passed es s na d z q found
 
 none-held : (s : List ℕ) (q : ℕ) → EntriesAt none s q
 unfolding EntriesAt
@@ -77,35 +69,64 @@ past-more : (es : Entries) (o : ℕ) (u : Usage) → anyPast (es <+> entry o u n
 past-more none o u = refl
 past-more (entry o′ u′ es) o u = ap (λ (c : Bool). past32 (ends o′ (size u′)) || c) (past-more es o u) ∙ or-swap (past32 (ends o′ (size u′))) (past32 (ends o (size u))) (anyPast es)
 
--- what is known of the entry at q, of those that stand there
-record Met {es : Entries} {s : List ℕ} {na d : ℕ} {e : Size} {q : ℕ} {found : Overlap} (P : Passed es s na d e q found) (z q′ : ℕ) : Type 0 where
-  first : First (P .high) s q na q′
-  start : (e ≤ˢ fixed (offsetIn s q)) ≡ false
-  end : Marks z (ends (offsetIn s q) (size (first .u)))
+-- those before record q, as the search has passed them
+before-passed : {es : Entries} {s : List ℕ} {na d : ℕ} {e : Size} {q : ℕ} {found : Overlap} → Passed es s na d e q found → Before es s 1 na q
+before-passed {s} P = record {
+  pre = P .low <+> P .mid;
+  left = P .high;
+  is = P .is ∙ sym (append-assoc (P .low) (P .mid) (P .high));
+  pre-held = entries-join (P .low) (P .mid) s 1 (P .low-held) (rw (P .low-count) (P .mid-held));
+  pre-count = omega (arith, append-nodes (P .low) (P .mid), P .low-count, P .mid-count);
+  held = P .high-held;
+  ends = P .high-count;
+}
 
-module _ {es : Entries} {s : List ℕ} {na d : ℕ} {e : Size} {q : ℕ} {found : Overlap} (P : Passed es s na d e q found) (z q′ : ℕ) (dsmall : d < 4294967296) (E : Met P z q′) where
-  one : Entries
-  one = entry (offsetIn s q) (E .first .u) none
+-- and as a finger tells
+before-finger : {s : List ℕ} {na f : ℕ} → Finger s 0 na f → (f ≡ 0 → ⊥) → (es : Entries) → EntriesAt es s 1 → 1 + nodesIn es ≡ na → Before es s 1 na f
+before-finger {s} {na} {f} F some es h en = let B = F .begins some in before-at (B .low) es s 1 f na (B .low-held) (B .low-ends) h en (omega (arith, B .high-ends))
 
-  step-below : z ≤ d → Passed es s na d e q′ (record { past = false; first = q′; upto = q′; low = q })
-  unfolding one
-  step-below le =
-      let o = offsetIn s q in
-      let F = E .first in
-      let both = append-nodes (P .low) (P .mid) in
-      let there : 1 + nodesIn (P .low <+> P .mid) ≡ q = omega (arith, P .low-count, P .mid-count) in
+pub finger-run : {s : List ℕ} {na f : ℕ} → Finger s 0 na f → (f ≡ 0 → ⊥) → Run s f na
+finger-run {f} F some =
+    let B = F .begins some in
+    let here : 0 + f ≡ f = omega arith in
+    record { es = B .high; held = rw here at (B .high-held); ends = B .high-ends }
+
+-- The entry at q, of m nodes, starts at o before e and ends at z
+module _ {s : List ℕ} {na d e q o m q′ z : ℕ} (lt : q < na) (dsmall : d < 4294967296) (eo : o ≡ offsetIn s q) (early : o < e) (H : FirstHas s q na m) (eq : q′ ≡ q + m)
+    (M : Marks z (ends o (sizeIn s q))) where
+  -- what is known of it, where `left` stand from it on
+  record Met (left : Entries) (y : Size) : Type 0 where
+    first : First left s q na q′
+    start : (y ≤ˢ fixed (offsetIn s q)) ≡ false
+    end : Marks z (ends (offsetIn s q) (size (first .u)))
+    same : ends o (sizeIn s q) ≡ ends (offsetIn s q) (size (first .u))
+
+  met : {es : Entries} {y : Size} (k : ℕ) (B : Before es s 1 na q) → Marks e y → Ascends k 0 es → Met (B .left) y
+  met k B Me c =
+      let F = first-of (B .left) {q′ = q′} lt (B .held) (B .ends) (H .is) eq in
+      let c₁ = rw (F .is) at (ascends-back k (B .pre) (B .left) 0 (rw (B .is) at c)) in
+      let root = root-of (F .u) s q (offsetIn s q) (F .stands) .1 in
       record {
-        low = (P .low <+> P .mid) <+> one;
+        first = F;
+        start = marks-lt _ (fixed (offsetIn s q)) Me (marks-fixed (omega (arith, c₁ .1))) (omega arith);
+        end = rw (eo, root .size) at M;
+        same = rw (eo, root .size);
+      }
+
+  step-below : {es : Entries} {y : Size} (B : Before es s 1 na q) → Met (B .left) y → z ≤ d → Passed es s na d y q′ (record { past = false; first = q′; upto = q′; low = q })
+  step-below B E le =
+      let p = offsetIn s q in
+      let F = E .first in
+      let one : Entries = entry p (F .u) none in
+      record {
+        low = B .pre <+> one;
         mid = none;
         high = F .rest;
-        is = P .is ∙ ap (λ x. P .low <+> P .mid <+> x) (F .is)
-            ∙ sym (append-assoc (P .low) (P .mid) (entry o (F .u) (F .rest))) ∙ sym (append-assoc (P .low <+> P .mid) one (F .rest));
-        low-held = entries-join (P .low <+> P .mid) one s 1
-            (entries-join (P .low) (P .mid) s 1 (P .low-held) (rw (P .low-count) (P .mid-held)))
-            (rw there (one-entry o (F .u) s q (F .stands)));
-        low-count = omega (arith, append-nodes (P .low <+> P .mid) one, F .size);
-        low-last = sym (last-snoc (P .low <+> P .mid) o (F .u) 0 1 ∙ there);
-        low-ended = by (P .low <+> P .mid) o (F .u) (E .start) (marks-le (ends o (size (F .u))) (fixed d) (E .end) (marks-fixed dsmall) le);
+        is = B .is ∙ ap (λ x. B .pre <+> x) (F .is) ∙ sym (append-assoc (B .pre) one (F .rest));
+        low-held = entries-join (B .pre) one s 1 (B .pre-held) (rw (B .pre-count) (one-entry p (F .u) s q (F .stands)));
+        low-count = omega (arith, append-nodes (B .pre) one, B .pre-count, F .size);
+        low-last = sym (last-snoc (B .pre) p (F .u) 0 1 ∙ B .pre-count);
+        low-ended = by (B .pre) p (F .u) (E .start) (marks-le (ends p (size (F .u))) (fixed d) (E .end) (marks-fixed dsmall) le);
         mid-held = none-held s q′;
         mid-count = omega arith;
         mid-crossing = tt;
@@ -114,11 +135,12 @@ module _ {es : Entries} {s : List ℕ} {na d : ℕ} {e : Size} {q : ℕ} {found 
         high-count = F .ends;
       }
 
-  step-across : d < z → Passed es s na d e q′ (record { past = past32 (ends (offsetIn s q) (size (E .first .u))) || found .past; first = found .first; upto = q′; low = found .low })
-  unfolding one
-  step-across lt =
-      let o = offsetIn s q in
+  step-across : {es : Entries} {y : Size} {found : Overlap} (P : Passed es s na d y q found) (E : Met (P .high) y) → d < z
+      → Passed es s na d y q′ (record { past = past32 (ends (offsetIn s q) (size (E .first .u))) || found .past; first = found .first; upto = q′; low = found .low })
+  step-across {y} {found} P E past =
+      let p = offsetIn s q in
       let F = E .first in
+      let one : Entries = entry p (F .u) none in
       record {
         low = P .low;
         mid = P .mid <+> one;
@@ -128,63 +150,63 @@ module _ {es : Entries} {s : List ℕ} {na d : ℕ} {e : Size} {q : ℕ} {found 
         low-count = P .low-count;
         low-last = P .low-last;
         low-ended = P .low-ended;
-        mid-held = entries-join (P .mid) one s (found .first) (P .mid-held) (rw (P .mid-count) (one-entry o (F .u) s q (F .stands)));
+        mid-held = entries-join (P .mid) one s (found .first) (P .mid-held) (rw (P .mid-count) (one-entry p (F .u) s q (F .stands)));
         mid-count = omega (arith, append-nodes (P .mid) one, P .mid-count, F .size);
-        mid-crossing = cross-more d e (P .mid) o (F .u) (P .mid-crossing) (E .start) (marks-lt (ends o (size (F .u))) (fixed d) (E .end) (marks-fixed dsmall) lt);
-        mid-past = ap (λ (c : Bool). past32 (ends o (size (F .u))) || c) (P .mid-past) ∙ sym (past-more (P .mid) o (F .u));
+        mid-crossing = cross-more d y (P .mid) p (F .u) (P .mid-crossing) (E .start) (marks-lt (ends p (size (F .u))) (fixed d) (E .end) (marks-fixed dsmall) past);
+        mid-past = ap (λ (c : Bool). past32 (ends p (size (F .u))) || c) (P .mid-past) ∙ sym (past-more (P .mid) p (F .u));
         high-held = F .held;
         high-count = F .ends;
       }
 
--- the ascent of what is still to come
-ascends-rest : {es : Entries} {s : List ℕ} {na d : ℕ} {z : Size} {q : ℕ} {found : Overlap} (P : Passed es s na d z q found) (k : ℕ) → Ascends k 0 es → Ascends k 0 (P .high)
-ascends-rest P k c = ascends-back k (P .mid) (P .high) 0 (ascends-back k (P .low) (P .mid <+> P .high) 0 (rw (P .is) at c))
+  below : ((k : ℕ) (y : Size) (es : Entries) → Marks e y → EntriesAt es s 1 → 1 + nodesIn es ≡ na → Ascends k 0 es → Before es s 1 na q) → Run s q na → 1 ≤ q → z ≤ d
+      → Scanned s na d e q′ (record { past = false; first = q′; upto = q′; low = q })
+  below before R some le = record {
+    some = omega arith;
+    lowest = omega (arith, H .some);
+    mid = omega arith;
+    upto = refl;
+    high = omega (arith, H .fits);
+    run = run-rest R lt H eq;
+    passed = λ k y es Me h en c. let B = before k y es Me h en c in step-below B (met k B Me c) le;
+  }
+
+  more : {found found′ : Overlap} → Scanned s na d e q found → Entered found q q′ z d found′ → Scanned s na d e q′ found′
+  unfolding before-passed
+  more {found} S N = elim (decLt d z) [
+    | yes across ↦
+        let is = N .across across (ends o (sizeIn s q)) M in
+        rw is (record {
+          some = S .some;
+          lowest = S .lowest;
+          mid = omega (arith, S .mid);
+          upto = refl;
+          high = omega (arith, H .fits);
+          run = run-rest (S .run) lt H eq;
+          passed = λ k y es Me h en c.
+              let P = S .passed k y es Me h en c in
+              let E = met k (before-passed P) Me c in
+              rw (E .same) (step-across P E across);
+        })
+    | no low ↦
+        let le : z ≤ d = omega arith in
+        rw (N .below le) (below (λ k y es Me h en c. before-passed (S .passed k y es Me h en c)) (S .run) (omega (arith, S .some, S .mid)) le)
+  ]
 
 pub scan-more : {s : List ℕ} {na d e q : ℕ} {found : Overlap} {o m q′ z : ℕ} {found′ : Overlap} → Scanned s na d e q found → q < na → d < 4294967296 → o ≡ offsetIn s q → o < e → FirstHas s q na m → q′ ≡ q + m
     → Marks z (ends o (sizeIn s q)) → Entered found q q′ z d found′ → Scanned s na d e q′ found′
-scan-more {s} {na} {d} {e} {q} {found} {o} {q′} {z} S lt dsmall eo before H eq M N = elim (decLt d z) [
-  | yes across ↦
-      let is = N .across across (ends o (sizeIn s q)) M in
-      rw is (record {
-        some = S .some;
-        lowest = S .lowest;
-        mid = omega (arith, S .mid);
-        upto = refl;
-        high = omega (arith, H .fits);
-        run = run-rest (S .run) lt H eq;
-        passed = λ k y es Me h en c.
-            let P = S .passed k y es Me h en c in
-            let E = met P k Me c in
-            rw (size-is P E) (step-across P z q′ dsmall E across);
-      })
-  | no below ↦
-      let le : z ≤ d = omega arith in
-      rw (N .below le) (record {
-        some = omega arith;
-        lowest = omega (arith, H .some);
-        mid = omega arith;
-        upto = refl;
-        high = omega (arith, H .fits);
-        run = run-rest (S .run) lt H eq;
-        passed = λ k y es Me h en c. let P = S .passed k y es Me h en c in step-below P z q′ dsmall (met P k Me c) le;
-      })
-]
-  where
-    met : {es : Entries} {y : Size} (P : Passed es s na d y q found) (k : ℕ) → Marks e y → Ascends k 0 es → Met P z q′
-    met P k Me c =
-        let F = first-of (P .high) {q′ = q′} lt (P .high-held) (P .high-count) (H .is) eq in
-        let c₁ = rw (F .is) at (ascends-rest P k c) in
-        let root = root-of (F .u) s q (offsetIn s q) (F .stands) .1 in
-        record {
-          first = F;
-          start = marks-lt _ (fixed (offsetIn s q)) Me (marks-fixed (omega (arith, c₁ .1))) (omega arith);
-          end = rw (eo, root .size) at M;
-        }
+scan-more S lt dsmall eo early H eq M N = more lt dsmall eo early H eq M S N
 
-    size-is : {es : Entries} {y : Size} (P : Passed es s na d y q found) (E : Met P z q′) → ends o (sizeIn s q) ≡ ends (offsetIn s q) (size (E .first .u))
-    size-is P E = let root = root-of (E .first .u) s q (offsetIn s q) (E .first .stands) .1 in rw (eo, root .size)
+-- from the entry at a finger on
+pub scan-from : {s : List ℕ} {na d e f : ℕ} {o m q′ z : ℕ} → Finger s 0 na f → (f ≡ 0 → ⊥) → f < na → d < 4294967296 → o ≡ offsetIn s f → o < e → FirstHas s f na m → q′ ≡ f + m
+    → Marks z (ends o (sizeIn s f)) → z ≤ d → Scanned s na d e q′ (record { past = false; first = q′; upto = q′; low = f })
+scan-from {f} F some lt dsmall eo early H eq M le =
+    below lt dsmall eo early H eq M (λ k y es Me h en c. before-finger F some es h en) (finger-run F some) (omega (arith, F .begins some .low-ends)) le
 
 -- The end
+
+-- the ascent of what is still to come
+ascends-rest : {es : Entries} {s : List ℕ} {na d : ℕ} {z : Size} {q : ℕ} {found : Overlap} (P : Passed es s na d z q found) (k : ℕ) → Ascends k 0 es → Ascends k 0 (P .high)
+ascends-rest P k c = ascends-back k (P .mid) (P .high) 0 (ascends-back k (P .low) (P .mid <+> P .high) 0 (rw (P .is) at c))
 
 parts : {s : List ℕ} {na d e q : ℕ} {found : Overlap} → Scanned s na d e q found
     → ((k : ℕ) (z : Size) (es : Entries) → Marks e z → (P : Passed es s na d z q found) → Ascends k 0 es → Starting z (P .high)) → Parts s na d e found

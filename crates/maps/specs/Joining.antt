@@ -115,6 +115,7 @@ entryState st l n o pairings mark at = record {
   base = st .base;
   mark = mark;
   at = at;
+  finger = 0;
 }
 
 abbrev pub bState : State → ℕ → ℕ → ℕ → ℕ → ℕ → ℕ → ℕ → State
@@ -134,6 +135,7 @@ bState st todo l n o pairings mark at = record {
   base = st .base;
   mark = mark;
   at = at;
+  finger = 0;
 }
 
 pub record EntryTook (s rep : List ℕ) (st : State) (l n pairings at : ℕ) (rep′ : List ℕ) (r : State) : Type 0 where

@@ -10,6 +10,7 @@ use Rattle.definitions.specs.Inner.Storable.{Ascends}
 use Rattle.records.specs.Usages.{EntriesAt}
 use Rattle.states.specs.States.{lastFrom}
 use Rattle.maps.specs.Numbers.{Marks}
+use Rattle.maps.specs.Runs.{Run}
 use Rattle.maps.specs.declared.Overlap.{Overlap}
 
 -- each starts before e and ends past d
@@ -48,6 +49,16 @@ pub record Passed (es : Entries) (s : List ℕ) (na d : ℕ) (e : Size) (q : ℕ
   pub mid-past : found .past ≡ anyPast mid
   pub high-held : EntriesAt high s q
   pub high-count : q + nodesIn high ≡ na
+
+-- whatever entries stand there, the search has passed those before record q
+pub record Scanned (s : List ℕ) (na d e q : ℕ) (found : Overlap) : Type 0 where
+  pub some : 1 ≤ found .first
+  pub lowest : found .low < found .first
+  pub mid : found .first ≤ q
+  pub upto : found .upto ≡ q
+  pub high : q ≤ na
+  pub run : Run s q na
+  pub passed : (k : ℕ) (z : Size) (es : Entries) → Marks e z → EntriesAt es s 1 → 1 + nodesIn es ≡ na → Ascends k 0 es → Passed es s na d z q found
 
 -- one entry more, from record `here` to record `next`, which ends at z
 pub record Entered (found : Overlap) (here next z d : ℕ) (r : Overlap) : Type 0 where

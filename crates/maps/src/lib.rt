@@ -7,11 +7,12 @@ ghost use lib.ListN.{length};
 ghost use Rattle.definitions.specs.Place.{ends};
 ghost use Rattle.qptr.specs.Values.{sizeOf};
 ghost use Rattle.records.specs.Records.{commandIn, sizeIn, offsetIn};
+ghost use Rattle.states.specs.Fingers.{Finger};
 ghost use Rattle.states.specs.States.{Waiting, Moves};
 ghost use Rattle.states.specs.Starts.{Beside, Plain, Starts};
 ghost use Rattle.maps.specs.Numbers.{Marks, Past};
 ghost use Rattle.maps.specs.Runs.{Run, FirstHas, LastAt};
-ghost use Rattle.maps.specs.Search.{Entered, Parts};
+ghost use Rattle.maps.specs.Search.{Scanned, Entered, Parts};
 ghost use Rattle.maps.specs.Joining.{Rows, Turned, Closed, GoesAt, GoesOn, EntryTook, BTook, Straddled};
 use qptr::MaxSize;
 use records::exchange;
@@ -74,20 +75,51 @@ pub struct Overlap {
     pub low: usize,
 }
 
-// The entries of the map at record 0, which end at record na, that overlap what starts at d and ends at e. The definition searches
-// downwards; upwards, an entry that ends by d starts the run anew.
-fn overlapping(s: &[u8], na: usize, d: u32, e: u64) -> Overlap
+// What the search may pass over at once: all up to the entry at `from`, if that one starts before e and ends by d.
+fn passed(s: &[u8], na: usize, from: usize, d: u32, e: u64) -> Overlap
     requires { ⌜ (na * 32 ≤ length (now s)) × (na ≤ 65536) ⌝ }
     requires { ⌜ Run (now s) 1 na ⌝ }
-    ensures { λ r. ⌜ Parts (now (s .entry)) na d e r ⌝ }
+    requires { ⌜ Finger (now s) 0 na from ⌝ }
+    ensures { λ r. ⌜ Scanned (now (s .entry)) na d e (r .upto) r ⌝ }
 {
-    let mut q = 1;
-    let mut found = Overlap {
+    let nothing = Overlap {
         past: false,
         first: 1,
         upto: 1,
         low: 0,
     };
+    if from == 0 {
+        return nothing;
+    }
+    if na <= from {
+        return nothing;
+    }
+    let o = offset(s, from);
+    if o as u64 >= e {
+        return nothing;
+    }
+    if (d as u64) < end_at(s, from, o) {
+        return nothing;
+    }
+    let next = from + entry_nodes(s, from, na);
+    Overlap {
+        past: false,
+        first: next,
+        upto: next,
+        low: from,
+    }
+}
+
+// The entries of the map at record 0, which end at record na, that overlap what starts at d and ends at e. The definition searches
+// downwards; upwards, an entry that ends by d starts the run anew.
+fn overlapping(s: &[u8], na: usize, from: usize, d: u32, e: u64) -> Overlap
+    requires { ⌜ (na * 32 ≤ length (now s)) × (na ≤ 65536) ⌝ }
+    requires { ⌜ Run (now s) 1 na ⌝ }
+    requires { ⌜ Finger (now s) 0 na from ⌝ }
+    ensures { λ r. ⌜ Parts (now (s .entry)) na d e r ⌝ }
+{
+    let mut found = passed(s, na, from, d, e);
+    let mut q = found.upto;
     while q < na {
         let o = offset(s, q);
         if e <= o as u64 {
@@ -194,7 +226,8 @@ fn replaced_above(s: &[u8], q: usize, total: usize, o: u32) -> usize
     q
 }
 
-// No entry is left to be joined: b, at x with n nodes, replaces what stands at its offset.
+// No entry is left to be joined: b, at x with n nodes, replaces what stands at its offset. The finger
+// is the last entry below.
 fn end_join(s: &mut [u8], st: State, n: usize, pairings: u32, at: usize, total: usize) -> State
     requires { ⌜ Waiting (now s) st n total ⌝ }
     requires { ⌜ Rows (now s) st total ⌝ }
@@ -208,7 +241,7 @@ fn end_join(s: &mut [u8], st: State, n: usize, pairings: u32, at: usize, total: 
     put_offset(s, x, o);
     move_down(s, to, x, n);
     let all = close(s, to + n, q, total);
-    State::finished(all, pairings, without_heading(st.base, at))
+    State::finished_at(all, pairings, without_heading(st.base, at), st.low)
 }
 
 // The entry at l and b straddle: they are gone, and so is what was reported before.
@@ -294,6 +327,7 @@ fn entry_receives(
         base: st.base,
         mark: at,
         at: next,
+        finger: 0,
     }
 }
 
@@ -331,21 +365,31 @@ fn b_receives(
         base: st.base,
         mark: at,
         at: next,
+        finger: 0,
     }
 }
 
 // b is placed at d in a, a map.
-pub fn begin_join(s: &mut [u8], na: usize, d: u32, nb: usize, rep: &mut [u8], at: usize) -> State
+pub fn begin_join(
+    s: &mut [u8],
+    na: usize,
+    d: u32,
+    nb: usize,
+    rep: &mut [u8],
+    at: usize,
+    from: usize,
+) -> State
     requires { ⌜ Beside (now s) na nb ⌝ }
     requires { ⌜ Plain (commandIn (now s) na) d ⌝ }
     requires { ⌜ commandIn (now s) 0 ≡ 3 ⌝ }
+    requires { ⌜ Finger (now s) 0 na from ⌝ }
     ensures { λ r. ⌜ Starts (now (s .entry)) na d nb (now (rep .entry)) at (now (s .exit)) (now (rep .exit)) r ⌝ }
 {
     let e = end_at(s, na, d);
     if past32(e) {
         return State::refused(9);
     }
-    let found = overlapping(s, na, d, e);
+    let found = overlapping(s, na, from, d, e);
     if found.past {
         return State::refused(9);
     }
@@ -367,6 +411,7 @@ pub fn begin_join(s: &mut [u8], na: usize, d: u32, nb: usize, rep: &mut [u8], at
         base: at,
         mark: at,
         at: at,
+        finger: 0,
     };
     let next = report::byte(rep, at, 0x30);
     next_join(s, st, nb, 1, rep, next, na + nb)

@@ -5,6 +5,7 @@ ghost use Rattle.definitions.specs.Place.{sizeRefusal};
 ghost use Rattle.qptr.specs.Values.{sizeOf};
 ghost use Rattle.records.specs.Records.{commandIn};
 ghost use Rattle.states.specs.Calls.{Ready, Near};
+ghost use Rattle.states.specs.Fingers.{Finger};
 ghost use Rattle.states.specs.States.{Begins, Began, Answered, Settled};
 ghost use Rattle.states.specs.Starts.{Plain};
 ghost use Rattle.rules.specs.Settling.{Unmarked};
@@ -57,9 +58,11 @@ fn begin_into(
     nb: usize,
     rep: &mut [u8],
     at: usize,
+    from: usize,
 ) -> State
     requires { ⌜ Ready (now table) (now places) (now s) na nb ⌝ }
     requires { ⌜ Plain (commandIn (now s) na) d ⌝ }
+    requires { ⌜ Finger (now s) 0 na from ⌝ }
     ensures { λ r. ⌜ Begins (now (table .entry)) (now (places .entry)) (now (s .entry)) na d nb (now (rep .entry)) at (now (s .exit)) (now (rep .exit)) r ⌝ }
 {
     let receiver = command(s, 0);
@@ -67,7 +70,7 @@ fn begin_into(
         return begin_unused(s, na, nb, at);
     }
     if receiver == 3 {
-        return begin_join(s, na, d, nb, rep, at);
+        return begin_join(s, na, d, nb, rep, at, from);
     }
     if receiver == 4 {
         return begin_array(s, na, d, nb, rep, at);
@@ -85,8 +88,10 @@ fn begin_with(
     nb: usize,
     rep: &mut [u8],
     at: usize,
+    from: usize,
 ) -> State
     requires { ⌜ Ready (now table) (now places) (now s) na nb ⌝ }
+    requires { ⌜ Finger (now s) 0 na from ⌝ }
     ensures { λ r. ⌜ Begins (now (table .entry)) (now (places .entry)) (now (s .entry)) na d nb (now (rep .entry)) at (now (s .exit)) (now (rep .exit)) r ⌝ }
 {
     let placed = command(s, na);
@@ -97,9 +102,9 @@ fn begin_with(
         if d == 0 {
             return begin_entries(s, na, nb, rep, at);
         }
-        return begin_into(table, places, s, na, d, nb, rep, at);
+        return begin_into(table, places, s, na, d, nb, rep, at, from);
     }
-    begin_into(table, places, s, na, d, nb, rep, at)
+    begin_into(table, places, s, na, d, nb, rep, at, from)
 }
 
 // Sizes, then the rules.
@@ -112,16 +117,18 @@ pub fn begin(
     nb: usize,
     rep: &mut [u8],
     at: usize,
+    from: usize,
 ) -> State
     requires { ⌜ Ready (now table) (now places) (now s) na nb ⌝ }
     requires { ⌜ Near at (na + nb) ⌝ }
+    requires { ⌜ Finger (now s) 0 na from ⌝ }
     ensures { λ r. ⌜ Began (now (table .entry)) (now (places .entry)) (now (s .entry)) na d nb (now (rep .entry)) at (now (s .exit)) (now (rep .exit)) r ⌝ }
 {
     let refusal = size_refusal(max_size(s, 0), d, max_size(s, na));
     if refusal != 0 {
         return State::refused(refusal);
     }
-    begin_with(table, places, s, na, d, nb, rep, at)
+    begin_with(table, places, s, na, d, nb, rep, at, from)
 }
 
 // Where the report goes on behind a pair: its 31 is taken back if nothing was reported.
@@ -145,7 +152,7 @@ pub fn settle(s: &mut [u8], st: State, r: Outcome, rep: &mut [u8], total: usize)
     let pairings = std::num::wrapping_add_u32(st.pairings, r.pairings);
     let at = without_mark(st.at, st.mark, r.at);
     if st.rule == 2 {
-        return next_entry(s, st, r.nodes, pairings, rep, at, total);
+        return next_entry(s, st, r.nodes, pairings, rep, at, r.finger, total);
     }
     if st.rule == 6 {
         return next_join(s, st, r.nodes, pairings, rep, at, total);

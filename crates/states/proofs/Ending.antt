@@ -12,9 +12,11 @@ use Rattle.report.specs.Emitted.{Emitted}
 use Rattle.report.proofs.Emitting.{emitted-back}
 use Rattle.states.specs.Calls.{Done}
 use Rattle.states.specs.States.{Next, Numbers}
-use Rattle.states.specs.Ends.{finishedState, refusedState, Unheaded}
+use Rattle.states.specs.Fingers.{Finger}
+use Rattle.states.specs.Ends.{finishedState, finishedAt, refusedState, Unheaded}
+use Rattle.states.proofs.Fingers.{no-finger}
 
-pub numbers-finished : (n p at total : ℕ) → 1 ≤ n → n ≤ total → Numbers (finishedState n p at) total
+pub numbers-finished : (n p at total : ℕ) {finger : ℕ} → 1 ≤ n → n ≤ total → Numbers (finishedAt n p at finger) total
 numbers-finished n p at total some le =
     record { todo = omega arith; less = omega arith; fits = omega arith; high = le; some = some; more = omega arith }
 
@@ -23,12 +25,16 @@ numbers-refused k total some =
     record { todo = omega arith; less = omega arith; fits = omega arith; high = some; some = omega arith; more = omega arith }
 
 module _ (setting : Setting) (rep₀ : List ℕ) (base : ℕ) (s rep : List ℕ) (total : ℕ) where
+  pub next-at : (goal : Result Usage) (n p at finger : ℕ) → Done goal s 0 n p rep₀ base rep at → Finger s 0 n finger
+      → Next setting goal rep₀ base s rep (finishedAt n p at finger) total
+  next-at goal n p at finger D F = record { ends = λ _. D; goes = λ more. absurd (more refl); finger = λ _. F }
+
   pub next-finished : (goal : Result Usage) (n p at : ℕ) → Done goal s 0 n p rep₀ base rep at
       → Next setting goal rep₀ base s rep (finishedState n p at) total
-  next-finished goal n p at D = record { ends = λ _. D; goes = λ more. absurd (more refl) }
+  next-finished goal n p at D = next-at goal n p at 0 D (no-finger s 0 n)
 
   pub next-refused : (k : ℕ) → 1 ≤ k → Next setting (refused k) rep₀ base s rep (refusedState k) total
-  next-refused k some = record { ends = λ _. (refl, some); goes = λ more. absurd (more refl) }
+  next-refused k some = record { ends = λ _. (refl, some); goes = λ more. absurd (more refl); finger = λ _. no-finger s 0 1 }
 
 pub emitted-unheaded : (w : List ℕ) {rep₀ : List ℕ} {base : ℕ} {rep : List ℕ} {at r : ℕ} → Emitted rep₀ base (0x30 ∷ w) rep at
     → base + length (ofRule w) < 2 ^ 63 → Unheaded base at r → Emitted rep₀ base (ofRule w) rep r

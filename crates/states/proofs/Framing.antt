@@ -16,6 +16,7 @@ pub outside-kept : (k : ℕ) (y : Beyond) (s s′ : List ℕ) (st : State) (w to
 unfolding Outside
 outside-kept k (entries es) s s′ st w total below above within h = record {
   rule = h .rule;
+  asks = h .asks;
   start = h .start;
   held = entries-move es s s′ (st .q) (st .q) (λ i _. above (st .q + i) (omega arith)) (h .held);
   count = h .count;

@@ -1,3 +1,4 @@
+pub mod Fingers
 pub mod Ending
 pub mod Outside
 pub mod Framing

@@ -3,9 +3,9 @@ use Prim.Native.Nat.{ℕ, _+_, _%_, _^_}
 use mathlib.Core.Path.{_≡_}
 use Rattle.states.specs.declared.State.{State}
 
--- the result has n nodes, from record 0 on
-abbrev pub finishedState : ℕ → ℕ → ℕ → State
-finishedState n pairings at = record {
+-- the result has n nodes, from record 0 on, and a finger
+abbrev pub finishedAt : ℕ → ℕ → ℕ → ℕ → State
+finishedAt n pairings at finger = record {
   refusal = 0;
   todo = 0;
   rule = 0;
@@ -21,7 +21,11 @@ finishedState n pairings at = record {
   base = 0;
   mark = 0;
   at = at;
+  finger = finger;
 }
+
+abbrev pub finishedState : ℕ → ℕ → ℕ → State
+finishedState n pairings at = finishedAt n pairings at 0
 
 abbrev pub refusedState : ℕ → State
 refusedState k = record {
@@ -40,6 +44,7 @@ refusedState k = record {
   base = 0;
   mark = 0;
   at = 0;
+  finger = 0;
 }
 
 -- a report that began at `base` and stands at `at` goes on at r: a 30 with nothing behind it is taken back

@@ -1,4 +1,5 @@
 pub mod Calls
+pub mod Fingers
 pub mod States
 pub mod Starts
 pub mod Ends

@@ -14,6 +14,7 @@ use Rattle.records.specs.Records.{commandIn, sizeIn, argumentIn}
 use Rattle.records.specs.Usages.{At, EntriesAt}
 use Rattle.report.specs.Emitted.{Emitted}
 use Rattle.states.specs.Calls.{Known, Two, Done}
+use Rattle.states.specs.Fingers.{Finger}
 use Rattle.states.specs.declared.State.{State}
 use Rattle.states.specs.declared.Outcome.{Outcome}
 
@@ -73,6 +74,7 @@ spare (joins z low mid high d) n = apartIn mid + n * nodesIn mid
 
 pub record Placing (k : ℕ) (es : Entries) (s : List ℕ) (st : State) (total : ℕ) : Type 0 where
   pub rule : st .rule ≡ 2
+  pub asks : st .todo ≤ 1
   pub start : st .x ≡ 0
   pub held : EntriesAt es s (st .q)
   pub count : nodesIn es ≡ st .rest
@@ -163,6 +165,7 @@ pub record Pending (setting : Setting) (goal : Result Usage) (rep₀ : List ℕ)
   pub based : st .base ≡ base
   pub mark : st .mark ≡ (base + length (heading y ++ w)) % 2 ^ 64
   pub report : Emitted rep₀ base ((heading y ++ w) ++ entryHead y o) rep (st .at)
+  pub finger : Finger s (st .x) (st .n) (st .finger)
   pub outside : Outside (length (setting .table)) y s st total
 
 -- a goal's report, which began at `base`, never comes to where positions wrap, nor does any that a straddle takes back on the way
@@ -174,6 +177,7 @@ Short base (done u w p) = (base + length w < 2 ^ 63) × (base + 14 * p < 2 ^ 63)
 pub record Next (setting : Setting) (goal : Result Usage) (rep₀ : List ℕ) (base : ℕ) (s rep : List ℕ) (st : State) (total : ℕ) : Type 0 where
   pub ends : st .todo ≡ 0 → Done goal s (st .refusal) (st .n) (st .pairings) rep₀ base rep (st .at)
   pub goes : (st .todo ≡ 0 → ⊥) → Pending setting goal rep₀ base s rep st total
+  pub finger : st .todo ≡ 0 → Finger s 0 (st .n) (st .finger)
 
 -- a state's numbers
 pub record Numbers (st : State) (total : ℕ) : Type 0 where
@@ -226,6 +230,7 @@ pub record Began (table places s : List ℕ) (na d nb : ℕ) (rep : List ℕ) (a
 pub record Answered (s : List ℕ) (st : State) (r : Outcome) (total : ℕ) : Type 0 where
   pub some : 1 ≤ total
   pub waits : r .refusal ≡ 0 → Waiting s st (r .nodes) total
+  pub finger : r .refusal ≡ 0 → st .rule ≡ 2 → Finger s (st .x) (r .nodes) (r .finger)
 
 -- The pair gave u, with the report w′ and p′ pairings.
 pub record Given (k : ℕ) (y : Beyond) (o : ℕ) (w : List ℕ) (p : ℕ) (rep₀ : List ℕ) (base : ℕ) (u : Usage) (w′ : List ℕ) (p′ : ℕ) (s rep : List ℕ) (st : State) (r : Outcome) : Type 0 where

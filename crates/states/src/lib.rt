@@ -1,6 +1,6 @@
 // What a placing has come to, and what it has yet to do.
 ghost use mathlib.Core.Path.{_≡_};
-ghost use Rattle.states.specs.Ends.{finishedState, refusedState, Unheaded};
+ghost use Rattle.states.specs.Ends.{finishedState, finishedAt, refusedState, Unheaded};
 
 // What a placing, or a merge, has come to. The result stands from record 0 on.
 pub struct Outcome {
@@ -8,6 +8,7 @@ pub struct Outcome {
     pub nodes: usize,
     pub pairings: u32,
     pub at: usize, // where the report goes on
+    pub finger: usize, // where an entry of the result begins, or 0: a search for what lies above may start there
 }
 
 // What a placing has yet to do. A pair stands from record x on: n nodes, and then m nodes that go into them at d.
@@ -27,11 +28,19 @@ pub struct State {
     pub base: usize, // where this placing's report began
     pub mark: usize, // rules 2 and 6: where the report stood before the pair's 31
     pub at: usize,
+    pub finger: usize, // where an entry of the first of the pair begins, counted from x, or 0; if finished, of the result
 }
 
 impl State {
     pub fn finished(n: usize, pairings: u32, at: usize) -> State
         ensures { λ r. ⌜ r ≡ finishedState n pairings at ⌝ }
+    {
+        State::finished_at(n, pairings, at, 0)
+    }
+
+    // The same, with a finger.
+    pub fn finished_at(n: usize, pairings: u32, at: usize, finger: usize) -> State
+        ensures { λ r. ⌜ r ≡ finishedAt n pairings at finger ⌝ }
     {
         State {
             refusal: 0,
@@ -49,6 +58,7 @@ impl State {
             base: 0,
             mark: 0,
             at: at,
+            finger: finger,
         }
     }
 
@@ -71,6 +81,7 @@ impl State {
             base: 0,
             mark: 0,
             at: 0,
+            finger: 0,
         }
     }
 }

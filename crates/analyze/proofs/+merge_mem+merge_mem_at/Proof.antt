@@ -4,7 +4,8 @@ use borrow.Author.Needs.{needs}
 use mathlib.Core.Path.{refl}
 use Prim.Native.Nat.{ℕ, _+_, _*_, _<_}
 use native.Mathlib.Omega.{arith}
-use Rattle.analyze.proofs.Loop.{Loop, loop-first, loop-last, pair-ready, pair-near, pair-answered, loop-again, is-merging, is-placing}
+use Rattle.states.proofs.Fingers.{no-finger}
+use Rattle.analyze.proofs.Loop.{Loop, loop-first, loop-last, loop-finger, pair-ready, pair-finger, merges-none, pair-near, pair-answered, loop-again, is-merging, is-placing}
 use Rattle.analyze.proofs.Merging.{ready-exchanged, merged-left, merged-right}
 use borrow.Fn.Kinds.{In}
 use borrow.Fn.PlainCycle.{Measures, is, falls, and}
@@ -63,7 +64,7 @@ merge-mem-first-receives-requires : (t : ℕ) → merge-mem-lts.Need-first-recei
 merge-mem-first-receives-requires t c κs = search needs
 
 merge-mem-merge-mem-at-requires : (t : ℕ) → merge-mem-lts.Need-merge-mem-at-requires (merge-mem-claims t) (merge-mem-at t) merge-mem.Post
-merge-mem-merge-mem-at-requires t c κs = search needs
+merge-mem-merge-mem-at-requires t c κs = search (no-finger, needs)
 
 merge-mem-same-length : (t : ℕ) → merge-mem-lts.Need-same-length (merge-mem-claims t) (merge-mem-at t) merge-mem.Post
 merge-mem-same-length t c = search needs
@@ -81,7 +82,7 @@ merge-mem-merge-mem-at-requires-2 : (t : ℕ) → merge-mem-lts.Need-merge-mem-a
 merge-mem-merge-mem-at-requires-2 t c κs =
     let exchanged : _ = c .before .before .before .before in
     let start : _ = exchanged .before .before .before .before .before .before .before .before .before .before .before .before in
-    (omega (arith, start .pre .0), (ready-exchanged (start .pre .1 .0) (exchanged .exchange .ensures) (exchanged .exchange .kept .0), omega (arith, start .pre .1 .1)))
+    (omega (arith, start .pre .0), (ready-exchanged (start .pre .1 .0) (exchanged .exchange .ensures) (exchanged .exchange .kept .0), (omega (arith, start .pre .1 .1), no-finger _ _ _)))
 
 merge-mem-same-length-3 : (t : ℕ) → merge-mem-lts.Need-same-length-3 (merge-mem-claims t) (merge-mem-at t) merge-mem.Post
 merge-mem-same-length-3 t c = search needs
@@ -93,10 +94,10 @@ merge-mem-returns-2 : (t : ℕ) → merge-mem-lts.Need-returns-2 (merge-mem-clai
 merge-mem-returns-2 t c = search (merged-right, needs)
 
 abbrev merge-mem-at-Inv-loop : merge-mem-at-lts.InvT-loop
-merge-mem-at-Inv-loop table places s₀ na d nb rep₀ at total st₀ s rep st = Loop table places s₀ rep₀ st₀ at (na + nb) s rep st
+merge-mem-at-Inv-loop table places s₀ na d nb rep₀ at from total st₀ s rep st = Loop table places s₀ rep₀ st₀ at (na + nb) s rep st
 
 abbrev merge-mem-at-μ-loop : merge-mem-at-lts.MeasureT-loop
-merge-mem-at-μ-loop table places s₀ na d nb rep₀ at total st₀ s rep st = st .rest * 4 + st .todo
+merge-mem-at-μ-loop table places s₀ na d nb rep₀ at from total st₀ s rep st = st .rest * 4 + st .todo
 
 merge-mem-at-add-total : (t : ℕ) → merge-mem-at-lts.Need-add-total (merge-mem-at-claims t) (merge-mem-at-at t) merge-mem-at′.Post merge-mem-at-Inv-loop merge-mem-at-μ-loop
 merge-mem-at-add-total t c = search needs
@@ -108,7 +109,7 @@ merge-mem-at-loop-holds : (t : ℕ) → merge-mem-at-lts.Need-loop-holds (merge-
 merge-mem-at-loop-holds t c =
     let begun : _ = c .before .before .before .before in
     let start : _ = begun .before .before .before .before .before .before .before in
-    loop-first (start .pre .1 .0) (start .pre .1 .1) (begun .begin .ensures) (begun .begin .kept .1 .1 .0)
+    loop-first (start .pre .1 .0) (start .pre .1 .1 .0) (begun .begin .ensures) (begun .begin .kept .1 .1 .0)
 
 merge-mem-at-mul-x : (t : ℕ) → merge-mem-at-lts.Need-mul-x (merge-mem-at-claims t) (merge-mem-at-at t) merge-mem-at′.Post merge-mem-at-Inv-loop merge-mem-at-μ-loop
 merge-mem-at-mul-x t c = search needs
@@ -149,7 +150,8 @@ merge-mem-at-settle-requires t c κs =
     let tested : _ = chosen .before .before .before .before .before in
     let known : _ = tested .before in
     let turn : _ = known .before in
-    pair-answered (turn .loop .inv) (tested .if1 .taken) refl refl refl (is-merging _ _ (chosen .if2 .taken)) (called .merge-mem .ensures) (called .merge-mem .kept .1 .1 .0) refl (omega (arith, known .struct-known .given))
+    pair-answered (turn .loop .inv) (tested .if1 .taken) refl refl refl _ (is-merging _ _ (chosen .if2 .taken)) (called .merge-mem .ensures) (called .merge-mem .kept .1 .1 .0) refl (omega (arith, known .struct-known .given))
+    (λ rule _. absurd (merges-none (turn .loop .inv) (tested .if1 .taken) refl refl refl (chosen .if2 .taken) rule))
 
 merge-mem-at-loop-less : (t : ℕ) → merge-mem-at-lts.Need-loop-less (merge-mem-at-claims t) (merge-mem-at-at t) merge-mem-at′.Post merge-mem-at-Inv-loop merge-mem-at-μ-loop
 merge-mem-at-loop-less t c =
@@ -165,7 +167,7 @@ merge-mem-at-loop-again t c =
     let tested : _ = chosen .before .before .before .before .before in
     let known : _ = tested .before in
     let turn : _ = known .before in
-    loop-again (turn .loop .inv) (tested .if1 .taken) refl refl refl (is-merging _ _ (chosen .if2 .taken)) (called .merge-mem .ensures) (called .merge-mem .kept .1 .1 .0) refl (omega (arith, known .struct-known .given)) (settled .settle .kept .0) (called .merge-mem .kept .1 .1 .1 .1 .1 .0) (settled .settle .kept .1 .1 .1 .0) (settled .settle .ensures)
+    loop-again (turn .loop .inv) (tested .if1 .taken) refl refl refl _ (is-merging _ _ (chosen .if2 .taken)) (called .merge-mem .ensures) (called .merge-mem .kept .1 .1 .0) refl (omega (arith, known .struct-known .given)) (settled .settle .kept .0) (called .merge-mem .kept .1 .1 .1 .1 .1 .0) (settled .settle .kept .1 .1 .1 .0) (settled .settle .ensures)
 
 merge-mem-at-sub-merge-mem-at : (t : ℕ) → merge-mem-at-lts.Need-sub-merge-mem-at (merge-mem-at-claims t) (merge-mem-at-at t) merge-mem-at′.Post merge-mem-at-Inv-loop merge-mem-at-μ-loop
 merge-mem-at-sub-merge-mem-at t c = search needs
@@ -183,7 +185,7 @@ merge-mem-at-merge-mem-at-requires t c κs =
     let tested : _ = c .before .before .before .before .before .before .before in
     let turn : _ = tested .before .before in
     let start : _ = turn .before .before .before .before .before .before .before .before .before .before .before .before in
-    (omega (arith, turn .loop .inv .numbers .less, turn .loop .inv .numbers .fits, turn .loop .inv .numbers .high, tested .if1 .taken, start .pre .0), (pair-ready (turn .loop .inv) (tested .if1 .taken) refl refl refl, pair-near (turn .loop .inv) (tested .if1 .taken) refl refl refl))
+    (omega (arith, turn .loop .inv .numbers .less, turn .loop .inv .numbers .fits, turn .loop .inv .numbers .high, tested .if1 .taken, start .pre .0), (pair-ready (turn .loop .inv) (tested .if1 .taken) refl refl refl, (pair-near (turn .loop .inv) (tested .if1 .taken) refl refl refl, pair-finger (turn .loop .inv) (tested .if1 .taken) refl refl refl)))
 
 merge-mem-at-settle-requires-2 : (t : ℕ) → merge-mem-at-lts.Need-settle-requires-2 (merge-mem-at-claims t) (merge-mem-at-at t) merge-mem-at′.Post merge-mem-at-Inv-loop merge-mem-at-μ-loop
 merge-mem-at-settle-requires-2 t c κs =
@@ -192,7 +194,8 @@ merge-mem-at-settle-requires-2 t c κs =
     let tested : _ = chosen .before .before .before .before .before in
     let known : _ = tested .before in
     let turn : _ = known .before in
-    pair-answered (turn .loop .inv) (tested .if1 .taken) refl refl refl (is-placing _ _ (turn .loop .inv .numbers .todo) (chosen .if2 .left)) (called .merge-mem-at .ensures) (called .merge-mem-at .kept .1 .1 .0) refl (omega (arith, known .struct-known .given))
+    pair-answered (turn .loop .inv) (tested .if1 .taken) refl refl refl _ (is-placing _ _ (turn .loop .inv .numbers .todo) (chosen .if2 .left)) (called .merge-mem-at .ensures .0) (called .merge-mem-at .kept .1 .1 .0) refl (omega (arith, known .struct-known .given))
+    (λ _. called .merge-mem-at .ensures .1 .of)
 
 merge-mem-at-loop-less-2 : (t : ℕ) → merge-mem-at-lts.Need-loop-less-2 (merge-mem-at-claims t) (merge-mem-at-at t) merge-mem-at′.Post merge-mem-at-Inv-loop merge-mem-at-μ-loop
 merge-mem-at-loop-less-2 t c =
@@ -208,7 +211,7 @@ merge-mem-at-loop-again-2 t c =
     let tested : _ = chosen .before .before .before .before .before in
     let known : _ = tested .before in
     let turn : _ = known .before in
-    loop-again (turn .loop .inv) (tested .if1 .taken) refl refl refl (is-placing _ _ (turn .loop .inv .numbers .todo) (chosen .if2 .left)) (called .merge-mem-at .ensures) (called .merge-mem-at .kept .1 .1 .0) refl (omega (arith, known .struct-known .given)) (settled .settle2 .kept .0) (called .merge-mem-at .kept .1 .1 .1 .1 .1 .1 .0) (settled .settle2 .kept .1 .1 .1 .0) (settled .settle2 .ensures)
+    loop-again (turn .loop .inv) (tested .if1 .taken) refl refl refl _ (is-placing _ _ (turn .loop .inv .numbers .todo) (chosen .if2 .left)) (called .merge-mem-at .ensures .0) (called .merge-mem-at .kept .1 .1 .0) refl (omega (arith, known .struct-known .given)) (settled .settle2 .kept .0) (called .merge-mem-at .kept .1 .1 .1 .1 .1 .1 .0) (settled .settle2 .kept .1 .1 .1 .0) (settled .settle2 .ensures)
 
 merge-mem-at-same-length : (t : ℕ) → merge-mem-at-lts.Need-same-length (merge-mem-at-claims t) (merge-mem-at-at t) merge-mem-at′.Post merge-mem-at-Inv-loop merge-mem-at-μ-loop
 merge-mem-at-same-length t c = search needs
@@ -221,7 +224,7 @@ merge-mem-at-returns t c =
     let turn : _ = c .before .before in
     let begun : _ = turn .before .before .before .before .before in
     let start : _ = begun .before .before .before .before .before .before .before in
-    loop-last (start .pre .1 .0) (start .pre .1 .1) (begun .begin .ensures) (turn .loop .inv) (c .if1 .left)
+    (loop-last (start .pre .1 .0) (start .pre .1 .1 .0) (begun .begin .ensures) (turn .loop .inv) (c .if1 .left), loop-finger (turn .loop .inv) (c .if1 .left))
 
 pub +merge-mem+merge-mem-at-spec : {M : Type 1} → statement M
 +merge-mem+merge-mem-at-spec = close μ-merge-mem μ-merge-mem-at (λ t. merge-mem-lts.spec (merge-mem-claims t)

@@ -9,6 +9,7 @@ use Rattle.definitions.specs.Place.{Result}
 use Rattle.definitions.proofs.Written.{Bytes}
 use Rattle.states.specs.Calls.{placing}
 use Rattle.inputs.specs.Inputs.{Good, Met}
+use Rattle.states.proofs.Fingers.{no-finger}
 use Rattle.answers.specs.Writing.{Reached}
 use Rattle.calls.proofs.Pairs.{back, Pair, both, ready, placing-few, reaches}
 use Rattle.calls.proofs.Placing.{toldMemory, place-refused, place-pair, place-gives}
@@ -86,7 +87,7 @@ part-merge-mem-at-end c = omega (arith, good (c .before .before .before .before 
 merge-mem-at-requires : tie.Need-merge-mem-at-requires
 merge-mem-at-requires c κs =
     let e = c .before .before .before .before .before .before .before .before in
-    (ready (good e) (pair e) (work-kept (c .before .before .before .before .before .before)) (c .before .before .before .before .before .before .load-both .ensures), omega (arith, good e .few))
+    (ready (good e) (pair e) (work-kept (c .before .before .before .before .before .before)) (c .before .before .before .before .before .before .load-both .ensures), (omega (arith, good e .few), no-finger _ _ _))
 
 -- what the definition gives, which is what there is of it
 
@@ -98,7 +99,7 @@ comes c =
     let e = c .before .before .before .before .before .before .before .before .before in
     let r = c .merge-mem-at in
     let offset = e .before .before .before .before .before .before .before .before .before .before .before .before .before .before .args .offset in
-    reaches (good e) (pair e) (work-kept (c .before .before .before .before .before .before .before)) (c .before .before .before .before .before .before .before .load-both .ensures) (placing offset) (placing-few (good e) (pair e) offset) (r .last .1 .1 .0) (search needs) (r .result) (r .ensures)
+    reaches (good e) (pair e) (work-kept (c .before .before .before .before .before .before .before)) (c .before .before .before .before .before .before .before .load-both .ensures) (placing offset) (placing-few (good e) (pair e) offset) (r .last .1 .1 .0) (search needs) (r .result) (r .ensures .0)
 
 finish-requires : tie.Need-finish-requires
 finish-requires c κs = record { result = answer (c .before .before .before .before .before .before .before); reached = comes (c .before .before .before .before .before .before .before) }

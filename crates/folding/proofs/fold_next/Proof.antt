@@ -48,7 +48,7 @@ returns c =
     let merge = c .before .before .before .before .before .before in
     let load = merge .before .before .before .before .before .before .before .before .before in
     let start = load .before .before .before .before .before .before .before in
-    next-folded (start .pre) (load .load-node .ensures) (omega (arith, next-room (start .pre) (load .load-node .ensures), start .pre .enough)) (start .args .i) (omega arith) (merge .merge-mem .ensures)
+    next-folded (start .pre) (load .load-node .ensures) (omega (arith, next-room (start .pre) (load .load-node .ensures), start .pre .enough)) (start .args .i) (merge .merge-mem .result) (omega arith) (merge .merge-mem .ensures)
     (c .before .wrapping-add-u32 .ensures) (index-back (start .args .i) (start .pre .near) (merge .before .before .before .before .before .of-node .ensures) (c .if1 .taken))
 
 same-length-3 : tie.Need-same-length-3
@@ -62,7 +62,7 @@ returns-2 c =
     let merge = c .before .before .before .before .before .before in
     let load = merge .before .before .before .before .before .before .before .before .before in
     let start = load .before .before .before .before .before .before .before in
-    next-folded (start .pre) (load .load-node .ensures) (omega (arith, next-room (start .pre) (load .load-node .ensures), start .pre .enough)) (start .args .i) (omega arith) (merge .merge-mem .ensures)
+    next-folded (start .pre) (load .load-node .ensures) (omega (arith, next-room (start .pre) (load .load-node .ensures), start .pre .enough)) (start .args .i) (merge .merge-mem .result) (omega arith) (merge .merge-mem .ensures)
     (c .before .wrapping-add-u32 .ensures) (index-kept (start .args .i) (start .pre .near) (merge .before .before .before .before .before .of-node .ensures) (c .if1 .left))
 
 pub fold-next-spec : {M : Type 1} → statement M

@@ -41,8 +41,8 @@ turn-requires c κs = search needs
 sub-next-join : tie.Need-sub-next-join
 sub-next-join c = search needs
 
-add-t22 : tie.Need-add-t22
-add-t22 c = search needs
+add-t23 : tie.Need-add-t23
+add-t23 c = search needs
 
 byte-requires : tie.Need-byte-requires
 byte-requires c κs = search needs
@@ -59,7 +59,7 @@ next-join-requires c κs =
     let tested : _ = within .before in
     let ended : _ = tested .before in
     let start : _ = ended .before .before .before .before in
-    begun-waits _ _ _ _ _ _ _ _ (start .fits .d .fits) (start .pre .1 .0) (start .pre .1 .1) (ended .end-at .ensures) (tested .past32 .ensures) (within .if1 .left)
+    begun-waits _ _ _ _ _ _ _ _ (start .fits .d .fits) (start .pre .1 .0) (start .pre .1 .1 .0) (ended .end-at .ensures) (tested .past32 .ensures) (within .if1 .left)
     (searched .overlapping .ensures) (fine .if2 .left) (turned .turn .ensures) (start .pre .0) (turned .turn .kept .0)
 
 same-length-3 : tie.Need-same-length-3
@@ -77,7 +77,7 @@ returns-3 c =
     let tested : _ = within .before in
     let ended : _ = tested .before in
     let start : _ = ended .before .before .before .before in
-    begun-starts _ _ _ _ _ _ _ _ (start .fits .d .fits) (start .pre .1 .0) (start .pre .1 .1) (ended .end-at .ensures) (tested .past32 .ensures) (within .if1 .left)
+    begun-starts _ _ _ _ _ _ _ _ (start .fits .d .fits) (start .pre .1 .0) (start .pre .1 .1 .0) (ended .end-at .ensures) (tested .past32 .ensures) (within .if1 .left)
     (searched .overlapping .ensures) (fine .if2 .left) (turned .turn .ensures) (start .pre .0) (c .before .before .before .before .before .before .before .before .before .byte .ensures) (c .before .before .before .before .next-join .ensures)
 
 pub begin-join-spec : {M : Type 1} → statement M
@@ -96,7 +96,7 @@ begin-join-spec =
     sub-turn
     turn-requires
     sub-next-join
-    add-t22
+    add-t23
     byte-requires
     add-next-join
     next-join-requires

@@ -26,8 +26,8 @@ close-requires c κs = search needs
 without-heading-requires : tie.Need-without-heading-requires
 without-heading-requires c κs = search needs
 
-finished-requires : tie.Need-finished-requires
-finished-requires c κs = search needs
+finished-at-requires : tie.Need-finished-at-requires
+finished-at-requires c κs = search needs
 
 same-length : tie.Need-same-length
 same-length c = search needs
@@ -41,7 +41,7 @@ returns c =
     let below : _ = above .before .before in
     let start : _ = below .before .before .before in
     λ rep. ends _ _ _ _ _ _ _ _ _ _ _ _ _ (start .pre .0) (start .pre .1 .0) (start .pre .1 .1) (below .replaced-below .ensures) (above .replaced-above .ensures)
-    (shifted .put-offset .ensures) (moved .move-down .ensures) (closed .close .ensures) (c .before .without-heading .ensures) rep (c .finished .ensures)
+    (shifted .put-offset .ensures) (moved .move-down .ensures) (closed .close .ensures) (c .before .without-heading .ensures) rep (c .finished-at .ensures)
 
 pub end-join-spec : {M : Type 1} → statement M
 end-join-spec =
@@ -54,6 +54,6 @@ end-join-spec =
     add-close
     close-requires
     without-heading-requires
-    finished-requires
+    finished-at-requires
     same-length
     returns)

@@ -2,18 +2,22 @@
 -- Assumes nothing.
 use Prim.Native.Nat.{_-_}
 use borrow.Author.Needs.{needs}
-use Rattle.maps.proofs.Scanning.{Scanned, scan-start, scan-more, scan-stop, scan-end}
+use Rattle.maps.specs.Search.{Scanned}
+use Rattle.maps.proofs.Scanning.{scan-more, scan-stop, scan-end}
 use Rattle.maps.proofs.overlapping.Statement.{statement}
 use Rattle.maps.proofs.overlapping.Tie as tie
 
 abbrev Inv-loop : tie.InvT-loop
-Inv-loop s na d e q₀ found₀ q found = Scanned s na d e q found
+Inv-loop s na from d e found₀ q₀ found q = Scanned s na d e q found
 
 abbrev μ-loop : tie.MeasureT-loop
-μ-loop s na d e q₀ found₀ q found = na - q
+μ-loop s na from d e found₀ q₀ found q = na - q
+
+passed-requires : tie.Need-passed-requires Inv-loop μ-loop
+passed-requires c κs = search needs
 
 loop-holds : tie.Need-loop-holds Inv-loop μ-loop
-loop-holds c = search (scan-start, needs)
+loop-holds c = search needs
 
 offset-requires : tie.Need-offset-requires Inv-loop μ-loop
 offset-requires c κs = search needs
@@ -51,6 +55,7 @@ overlapping-spec =
     (tie.spec
     Inv-loop
     μ-loop
+    passed-requires
     loop-holds
     offset-requires
     cast-if1

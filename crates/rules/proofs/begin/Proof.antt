@@ -33,7 +33,15 @@ same-length-3 : tie.Need-same-length-3
 same-length-3 c = search needs
 
 returns-2 : tie.Need-returns-2
-returns-2 c = search (began-fitting, needs)
+returns-2 c =
+    let begun : _ = c .before .before .before .before in
+    let fits : _ = begun .before .before .before in
+    let sized : _ = fits .before in
+    let second : _ = sized .before in
+    let first : _ = second .before .before in
+    let start : _ = first .before .before .before .before .before .before in
+    began-fitting _ _ _ _ _ _ _ _ (first .max-size .result) (second .max-size2 .result) _ (start .pre .0) (first .max-size .ensures) (second .max-size2 .ensures) (sized .size-refusal .ensures) _ _ _ (start .pre .1 .0) (fits .if1 .left)
+    (begun .begin-with .ensures)
 
 pub begin-spec : {M : Type 1} → statement M
 begin-spec =

@@ -24,7 +24,7 @@ begin-join-requires c κs =
     let chosen : _ = c .before .before in
     let first : _ = chosen .before .before in
     let start : _ = first .before .before .before .before .before .before in
-    (ready-beside _ _ _ _ _ (start .pre .0), (start .pre .1, omega (arith, first .command .ensures, chosen .if2 .taken)))
+    (ready-beside _ _ _ _ _ (start .pre .0), (start .pre .1 .0, (omega (arith, first .command .ensures, chosen .if2 .taken), start .pre .1 .1)))
 
 same-length-2 : tie.Need-same-length-2
 same-length-2 c = search needs
@@ -40,7 +40,7 @@ begin-array-requires c κs =
     let last : _ = c .before .before in
     let first : _ = last .before .before .before in
     let start : _ = first .before .before .before .before .before .before in
-    (ready-beside _ _ _ _ _ (start .pre .0), (start .pre .1, omega (arith, first .command .ensures, last .if3 .taken)))
+    (ready-beside _ _ _ _ _ (start .pre .0), (start .pre .1 .0, omega (arith, first .command .ensures, last .if3 .taken)))
 
 same-length-4 : tie.Need-same-length-4
 same-length-4 c = search needs

@@ -30,7 +30,7 @@ returns-2 : tie.Need-returns-2
 returns-2 c = search (begins-entries, needs)
 
 begin-into-requires : tie.Need-begin-into-requires
-begin-into-requires c κs = search needs
+begin-into-requires c κs = (search needs, (search needs, search needs))
 
 same-length-4 : tie.Need-same-length-4
 same-length-4 c = search needs
@@ -42,7 +42,7 @@ returns-3 : tie.Need-returns-3
 returns-3 c = search needs
 
 begin-into-requires-2 : tie.Need-begin-into-requires-2
-begin-into-requires-2 c κs = search needs
+begin-into-requires-2 c κs = (search needs, (search needs, search needs))
 
 same-length-6 : tie.Need-same-length-6
 same-length-6 c = search needs

@@ -26,7 +26,7 @@ next-entry-requires c κs =
     let chosen : _ = c .before .before in
     let tested : _ = chosen .before .before .before .before in
     let start : _ = tested .before .before .before .before in
-    let W = (start .pre .waits (tested .if1 .left)) in (W, rows _ _ _ _ W (chosen .if2 .taken))
+    let W = (start .pre .waits (tested .if1 .left)) in (W, (rows _ _ _ _ W (chosen .if2 .taken), start .pre .finger (tested .if1 .left) (chosen .if2 .taken)))
 
 same-length : tie.Need-same-length
 same-length c = search needs
