@@ -1,23 +1,16 @@
 -- Where the parts of a record lie: what keeps every index in range.
 -- Assumes nothing.
-use Prim.Native.Nat.{ℕ, _+_, _≤_}
+use Prim.Native.Nat.{ℕ, _+_, _-_, _≤_}
 use mathlib.Core.Path.{_≡_}
 use mathlib.Core.Bool.{Bool, true, false}
-use mathlib.Core.List.{List}
-use lib.ListN.{length}
+use mathlib.Core.List.{List, _++_}
+use lib.ListN.{length, replicate}
 use Rattle.records.specs.Words.{word}
-use Rattle.replaying.specs.declared.End.{End}
-use Rattle.replaying.specs.declared.End.the-variants as ends
 use Rattle.replaying.specs.declared.Parts.{Parts}
 use Rattle.replaying.specs.declared.Record.{Record}
 use Rattle.replaying.specs.declared.Record.the-variants as records
 use Rattle.replaying.specs.declared.Ran.{Ran}
 use Rattle.replaying.specs.declared.Ran.the-variants as rans
-
--- a part with its length in front
-abbrev pub Ends : List ℕ → ℕ → End → Type 0
-Ends s at (ends.At end) = (at + 4 ≤ end) × (end ≤ length s)
-Ends s at ends.Broken = Unit {0}
 
 -- the buffers hold what was written, and the record ends with it
 pub record Fits (s : List ℕ) (second : ℕ) : Type 0 where
@@ -48,3 +41,7 @@ Reads s records.Broken = Unit {0}
 abbrev pub Single : Ran → Type 0
 Single (rans.Record c) = (c .compared ≤ 1) × (c .different ≤ 1)
 Single rans.Broken = Unit {0}
+
+-- a buffer begins with these bytes, and has nothing but `rest` behind them
+abbrev pub Begins : List ℕ → List ℕ → ℕ → Type 0
+Begins buf bytes rest = buf ≡ bytes ++ replicate (length buf - length bytes) rest

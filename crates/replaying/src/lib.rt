@@ -2,10 +2,14 @@
 // that of `differential/README.md`.
 ghost use mathlib.Core.Path.{_≡_};
 ghost use Prim.Native.Nat.{_+_, _≤_};
-ghost use lib.ListN.{length};
-ghost use Rattle.replaying.specs.Parts.{Ends, Sized, Whole, Reads, Single};
+ghost use mathlib.Core.Bool.{true};
+ghost use lib.ListN.{length, replicate};
+ghost use Rattle.records.specs.Words.{word};
+ghost use Rattle.replaying.specs.Parts.{Begins, Fits, Sized, Whole, Reads, Single};
 use answers::Answer;
 use check::same;
+use frame::End;
+use frame::block;
 use records::get32;
 
 // The longest work area and the longest buffer of a record.
@@ -13,10 +17,14 @@ const WORK: u32 = 49160;
 
 const BUFFER: u32 = 16384;
 
-// The calls by number; place, merge and fold are 2 to 4.
+// The calls by number.
 const RECEIVER: u8 = 0;
 
 const SUPPORTS: u8 = 1;
+
+const PLACE: u8 = 2;
+
+const MERGE: u8 = 3;
 
 const FOLD: u8 = 4;
 
@@ -36,7 +44,11 @@ const TABLE_AT: usize = 17;
 
 // Behind them, counted from their end, come the output's length and fill byte, the report's, and the five numbers of the answer,
 // with the lengths of usage and report among them. The usage's bytes and the report's are all that follows.
+const OUTPUT_FILL_AT: usize = 4;
+
 const REPORT_AT: usize = 5;
+
+const REPORT_FILL_AT: usize = 9;
 
 const ANSWER_AT: usize = 10;
 
@@ -45,12 +57,6 @@ const USAGE_AT: usize = 18;
 const TEXT_AT: usize = 22;
 
 const WRITTEN_AT: usize = 30;
-
-// Where a part ends that has its length in front of it.
-enum End {
-    At(usize),
-    Broken,
-}
 
 // Where the table, the first stream and the second one end.
 struct Parts {
@@ -74,21 +80,6 @@ pub struct Counts {
 pub enum Ran {
     Record(Counts),
     Broken,
-}
-
-fn part_end(s: &[u8], at: usize) -> End
-    requires { ⌜ at ≤ length (now s) ⌝ }
-    ensures { λ r. ⌜ Ends (now (s .entry)) at r ⌝ }
-{
-    let left = s.len() - at;
-    if left < 4 {
-        return End::Broken;
-    }
-    let n = get32(s, at) as usize;
-    if left - 4 < n {
-        return End::Broken;
-    }
-    End::At(at + 4 + n)
 }
 
 // Are the work area and the buffers not too long, do the buffers hold what was written, and is that all that is left? The second
@@ -128,13 +119,13 @@ fn parts_of(s: &[u8]) -> Record
     if s.len() < PARTS_AT {
         return Record::Broken;
     }
-    let End::At(table) = part_end(s, PARTS_AT) else {
+    let End::At(table) = block(s, PARTS_AT) else {
         return Record::Broken;
     };
-    let End::At(first) = part_end(s, table) else {
+    let End::At(first) = block(s, table) else {
         return Record::Broken;
     };
-    let End::At(second) = part_end(s, first) else {
+    let End::At(second) = block(s, first) else {
         return Record::Broken;
     };
     if s.len() - second < WRITTEN_AT {
@@ -225,6 +216,125 @@ fn sound(s: &[u8], p: Parts) -> bool
     answered(s, p.second + ANSWER_AT, got)
 }
 
+// Every byte of a buffer becomes this one.
+fn fill(buf: &mut [u8], byte: u8)
+    ensures { λ r. ⌜ now (buf .exit) ≡ replicate (length (now (buf .entry))) byte ⌝ }
+{
+    let mut i = 0;
+    while i < buf.len() {
+        buf[i] = byte;
+        i += 1;
+    }
+}
+
+// Is every byte this one?
+fn only(buf: &[u8], byte: u8) -> bool
+    ensures { λ r. ⌜ (r ≡ true → now (buf .entry) ≡ replicate (length (now (buf .entry))) byte) ⌝ }
+{
+    let mut i = 0;
+    while i < buf.len() {
+        if buf[i] != byte {
+            return false;
+        }
+        i += 1;
+    }
+    true
+}
+
+// Does a buffer begin with these bytes, and has it nothing but `rest` behind them?
+fn begins(buf: &[u8], bytes: &[u8], rest: u8) -> bool
+    requires { ⌜ length (now bytes) ≤ length (now buf) ⌝ }
+    ensures { λ r. ⌜ (r ≡ true → Begins (now (buf .entry)) (now (bytes .entry)) rest) ⌝ }
+{
+    let n = bytes.len();
+    if !same(&buf[..n], bytes) {
+        return false;
+    }
+    only(&buf[n..], rest)
+}
+
+// Do the buffers hold what was written, and behind it what stood in the output before, and zeros in the report?
+fn wrote(s: &[u8], second: usize, output: &[u8], rep: &[u8]) -> bool
+    requires { ⌜ Fits (now s) second ⌝ }
+    requires { ⌜ (word (now s) second ≡ length (now output)) × (word (now s) (second + 5) ≡ length (now rep)) ⌝ }
+{
+    let usage = second + WRITTEN_AT;
+    let report = usage + get32(s, second + USAGE_AT) as usize;
+    if !begins(output, &s[usage..report], s[second + OUTPUT_FILL_AT]) {
+        return false;
+    }
+    begins(rep, &s[report..], 0)
+}
+
+// Place, merge or fold.
+fn call(s: &[u8], p: Parts, output: &mut [u8], rep: &mut [u8]) -> Answer
+    requires { ⌜ Whole (now s) p ⌝ }
+{
+    let mut work = work_area();
+    let n = get32(s, WORK_AT) as usize;
+    let t = p.table;
+    let a = p.table + 4;
+    let b = p.first;
+    let c = p.first + 4;
+    let d = p.second;
+    match s[0] {
+        PLACE => {
+            let offset = get32(s, OFFSET_AT);
+            calls::place(
+                &s[TABLE_AT..t],
+                &mut work[..n],
+                &s[a..b],
+                offset,
+                &s[c..d],
+                output,
+                rep,
+            )
+        }
+        MERGE => calls::merge(
+            &s[TABLE_AT..t],
+            &mut work[..n],
+            &s[a..b],
+            &s[c..d],
+            output,
+            rep,
+        ),
+        _ => calls::fold(&s[TABLE_AT..t], &mut work[..n], &s[a..b], output, rep),
+    }
+}
+
+// A call with these buffers, which are as long as is recorded; all that it gives back is compared.
+fn written(s: &[u8], p: Parts, output: &mut [u8], rep: &mut [u8]) -> bool
+    requires { ⌜ Whole (now s) p ⌝ }
+    requires { ⌜ (word (now s) (p .second) ≡ length (now output)) × (word (now s) (p .second + 5) ≡ length (now rep)) ⌝ }
+{
+    let second = p.second;
+    fill(output, s[second + OUTPUT_FILL_AT]);
+    fill(rep, s[second + REPORT_FILL_AT]);
+    let got = call(s, p, output, rep);
+    if !answered(s, second + ANSWER_AT, got) {
+        return false;
+    }
+    wrote(s, second, output, rep)
+}
+
+// The longest buffer.
+fn buffer() -> [u8; 16384]
+    ensures { λ r. ⌜ 16384 ≡ length r ⌝ }
+{
+    [0u8; 16384]
+}
+
+// Place, merge and fold, with buffers of their own.
+fn writing(s: &[u8], p: Parts) -> bool
+    requires { ⌜ Whole (now s) p ⌝ }
+{
+    let mut output = buffer();
+    let mut rep = buffer();
+    let m = get32(s, p.second) as usize;
+    let n = get32(s, p.second + REPORT_AT) as usize;
+    written(s, p, &mut output[..m], &mut rep[..n])
+}
+
 fn compared(is_same: bool) -> Ran
     ensures { λ r. ⌜ Single r ⌝ }
 {
@@ -234,7 +344,7 @@ fn compared(is_same: bool) -> Ran
     })
 }
 
-// One record, without its length in front. The calls that have no arm of their own are not compared yet.
+// One record, without its length in front.
 pub fn run(s: &[u8]) -> Ran
     ensures { λ r. ⌜ Single r ⌝ }
 {
@@ -245,10 +355,7 @@ pub fn run(s: &[u8]) -> Ran
         RECEIVER => compared(receiver(s, p)),
         SUPPORTS => compared(supports(s, p)),
         SOUND => compared(sound(s, p)),
-        2..=FOLD => Ran::Record(Counts {
-            compared: 0,
-            different: 0,
-        }),
+        PLACE..=FOLD => compared(writing(s, p)),
         _ => Ran::Broken,
     }
 }

@@ -3,16 +3,15 @@
 use native.Mathlib.Omega.{arith}
 use borrow.Author.Needs.{needs}
 use borrow.Author.Tests.{not-false}
-use Rattle.replaying.specs.Parts.{Ends}
-use Rattle.replaying.specs.declared.End.the-variants.{At}
+use Rattle.frame.specs.Places.{BlockAt}
 use Rattle.replaying.proofs.parts_of.Statement.{statement}
 use Rattle.replaying.proofs.parts_of.Tie as tie
 
 returns : tie.Need-returns
 returns c = search needs
 
-part-end-requires : tie.Need-part-end-requires
-part-end-requires c κs = search needs
+block-requires : tie.Need-block-requires
+block-requires c κs = search needs
 
 enum-known-table : tie.Need-enum-known-table
 enum-known-table c = search needs
@@ -23,11 +22,11 @@ enum-told c = search needs
 returns-2 : tie.Need-returns-2
 returns-2 c = search needs
 
-table : (c : tie.After-known-told) → Ends (c .before .before .before .before .before .before .args .s .now) 13 (At (c .before .table .given .0 .0))
-table c = rw (c .before .table .given .1) at (c .before .before .before .part-end .ensures)
+table : (c : tie.After-known-told) → BlockAt (c .before .before .before .before .before .before .args .s .now) 13 (c .before .table .given .0 .0)
+table c = rw (c .before .table .given .1) at (c .before .before .before .block .ensures)
 
-part-end-requires-2 : tie.Need-part-end-requires-2
-part-end-requires-2 c κs = table c .1
+block-requires-2 : tie.Need-block-requires-2
+block-requires-2 c κs = table c .within
 
 enum-known-first : tie.Need-enum-known-first
 enum-known-first c = search needs
@@ -38,11 +37,11 @@ enum-told-2 c = search needs
 returns-3 : tie.Need-returns-3
 returns-3 c = search needs
 
-first : (c : tie.After-known-told2) → Ends (c .before .before .before .before .before .before .before .before .before .before .args .s .now) (c .before .before .before .before .before .table .given .0 .0) (At (c .before .first .given .0 .0))
-first c = rw (c .before .first .given .1) at (c .before .before .before .part-end2 .ensures)
+first : (c : tie.After-known-told2) → BlockAt (c .before .before .before .before .before .before .before .before .before .before .args .s .now) (c .before .before .before .before .before .table .given .0 .0) (c .before .first .given .0 .0)
+first c = rw (c .before .first .given .1) at (c .before .before .before .block2 .ensures)
 
-part-end-requires-3 : tie.Need-part-end-requires-3
-part-end-requires-3 c κs = first c .1
+block-requires-3 : tie.Need-block-requires-3
+block-requires-3 c κs = first c .within
 
 enum-known-second : tie.Need-enum-known-second
 enum-known-second c = search needs
@@ -53,11 +52,11 @@ enum-told-3 c = search needs
 returns-4 : tie.Need-returns-4
 returns-4 c = search needs
 
-second : (c : tie.After-known-told3) → Ends (c .before .before .before .before .before .before .before .before .before .before .before .before .before .before .args .s .now) (c .before .before .before .before .before .first .given .0 .0) (At (c .before .second .given .0 .0))
-second c = rw (c .before .second .given .1) at (c .before .before .before .part-end3 .ensures)
+second : (c : tie.After-known-told3) → BlockAt (c .before .before .before .before .before .before .before .before .before .before .before .before .before .before .args .s .now) (c .before .before .before .before .before .first .given .0 .0) (c .before .second .given .0 .0)
+second c = rw (c .before .second .given .1) at (c .before .before .before .block3 .ensures)
 
 sub-if2 : tie.Need-sub-if2
-sub-if2 c = second c .1
+sub-if2 c = second c .within
 
 returns-5 : tie.Need-returns-5
 returns-5 c = search needs
@@ -71,9 +70,9 @@ returns-6 c = search needs
 returns-7 : tie.Need-returns-7
 returns-7 c =
     record {
-      table = table (c .before .before .before .before .before .before .before .before .before .before .before) .0;
-      first = first (c .before .before .before .before .before .before .before) .0;
-      second = second (c .before .before .before) .0;
+      table = table (c .before .before .before .before .before .before .before .before .before .before .before) .some;
+      first = first (c .before .before .before .before .before .before .before) .some;
+      second = second (c .before .before .before) .some;
       inside = let e = second (c .before .before .before) in omega arith;
       fits = rw (not-false (c .before .sized .result) (c .if3 .left)) at (c .before .sized .ensures);
     }
@@ -83,15 +82,15 @@ parts-of-spec =
     tie.close
     (tie.spec
     returns
-    part-end-requires
+    block-requires
     enum-known-table
     enum-told
     returns-2
-    part-end-requires-2
+    block-requires-2
     enum-known-first
     enum-told-2
     returns-3
-    part-end-requires-3
+    block-requires-3
     enum-known-second
     enum-told-3
     returns-4

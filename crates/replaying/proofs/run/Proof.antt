@@ -42,6 +42,12 @@ sound-requires c κs = whole (c .before .before)
 compared-requires-3 : tie.Need-compared-requires-3
 compared-requires-3 c κs = search needs
 
+writing-requires : tie.Need-writing-requires
+writing-requires c κs = whole (c .before .before .before)
+
+compared-requires-4 : tie.Need-compared-requires-4
+compared-requires-4 c κs = search needs
+
 returns-2 : tie.Need-returns-2
 returns-2 c = search needs
 
@@ -72,6 +78,8 @@ run-spec =
     compared-requires-2
     sound-requires
     compared-requires-3
+    writing-requires
+    compared-requires-4
     returns-2
     returns-3
     returns-4

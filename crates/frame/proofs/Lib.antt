@@ -1,0 +1,5 @@
+pub mod Framing
+pub mod Showing
+pub mod Lengths
+pub mod Printing
+pub mod Sanity
