@@ -7,10 +7,11 @@ use native.Mathlib.Decide.{decLt, ℕ-discrete}
 use native.Mathlib.Omega.{arith}
 use lib.ListN.{length, getD, set}
 use lib.Seq.{getD-set-same, getD-set-other}
-use Rattle.records.specs.Words.{Copied}
-use Rattle.records.specs.Records.{Same, Moved, Swapped, Reversed, Exchanged}
+use Rattle.records.specs.Words.{word, Copied}
+use Rattle.records.specs.Records.{sizeFrom, commandIn, countIn, argumentIn, offsetIn, Same, Written, Assigned, Raised, Moved, Swapped, Reversed, Exchanged}
 use Rattle.records.proofs.Usages.{holds-move, same-at}
 use Rattle.records.proofs.Parts.{byte-at, same-bytes}
+use Rattle.records.proofs.Writing.{saved}
 
 -- Copying down
 
@@ -124,3 +125,89 @@ exchanged {n} {m} {end} e A B C = record {
       holds-move (C .inside (end - 1 - i) i (omega arith) (omega arith) (omega arith))
       (holds-move (B .inside (n + i) (end - 1 - i) (omega arith) (omega arith) (omega arith)) (A .above (n + i) (omega arith)));
 }
+
+-- said of the same numbers
+pub exchanged-at : (s s′ : List ℕ) (n m x y : ℕ) → x ≡ n → y ≡ m → Exchanged s s′ n m → Exchanged s s′ x y
+exchanged-at s s′ n m x y e e′ E = rw (e, e′) E
+
+-- Exchanging with a single record
+
+-- the first n records are as they were up to i, and those from i on stand one higher
+pub record Lifted (s₀ s : List ℕ) (n i : ℕ) : Type 0 where
+  pub low : i ≤ n
+  pub len : length s ≡ length s₀
+  pub stay : (k : ℕ) → k < i → Same s₀ k s k
+  pub lifted : (k : ℕ) → i ≤ k → k < n → Same s₀ k s (1 + k)
+
+pub lifted-none : {s : List ℕ} {n : ℕ} → Lifted s s n n
+lifted-none {s} = record { low = omega arith; len = refl; stay = λ k a. itself s k; lifted = λ k a b. absurd (omega arith) }
+
+pub lifted-more : (s₀ s s′ : List ℕ) (n i i′ j : ℕ) → Lifted s₀ s n i → 0 < i → i′ ≡ i - 1 → j ≡ i′ + 1 → Assigned s s′ j i′ → length s′ ≡ length s → Lifted s₀ s′ n i′
+lifted-more s₀ s s′ n i i′ j L lt ei ej W l = record {
+  low = omega (arith, L .low);
+  len = l ∙ L .len;
+  stay = λ k a. holds-move (W .others k (omega arith)) (L .stay k (omega arith));
+  lifted = λ k a b. elim (ℕ-discrete k i′) [
+    | yes q ↦ same-at s₀ s′ i′ j k (1 + k) (sym q) (omega arith) (holds-move (W .here) (L .stay i′ (omega arith)))
+    | no q ↦ holds-move (W .others (1 + k) (omega arith)) (L .lifted k (omega arith) b)
+  ];
+}
+
+pub lifted-all : (s₀ s : List ℕ) (n i : ℕ) → Lifted s₀ s n i → i ≤ 0 → Raised s₀ s n
+lifted-all s₀ s n i L le = λ k lt. L .lifted k (omega arith) lt
+
+pub rotated-up : {s s₁ s₂ : List ℕ} {n c k f z t o : ℕ} → c ≡ commandIn s n → k ≡ countIn s n → f ≡ word s (n * 32 + 8) → z ≡ word s (n * 32 + 12) → t ≡ argumentIn s n → o ≡ offsetIn s n
+    → Raised s s₁ n → Written s₁ s₂ 0 c k (sizeFrom f z) t o → Exchanged s s₂ n 1
+rotated-up {s} {s₂} {n} ec ek ef ez et eo R W = record {
+  first = λ i lt. holds-move (W .others (1 + i) (omega arith)) (R i lt);
+  second = λ i lt. same-at s s₂ n 0 (n + i) i (omega arith) (omega arith) (saved s n ec ek ef ez et eo W);
+}
+
+pub rotated-down : {s s₁ s₂ : List ℕ} {m c k f z t o : ℕ} → c ≡ commandIn s 0 → k ≡ countIn s 0 → f ≡ word s (0 * 32 + 8) → z ≡ word s (0 * 32 + 12) → t ≡ argumentIn s 0 → o ≡ offsetIn s 0
+    → Moved s s₁ 0 1 m → Written s₁ s₂ m c k (sizeFrom f z) t o → Exchanged s s₂ 1 m
+rotated-down {s} {s₁} {s₂} {m} ec ek ef ez et eo M W = record {
+  first = λ i lt. same-at s s₂ 0 m i (m + i) (omega arith) (omega arith) (saved s 0 ec ek ef ez et eo W);
+  second = λ i lt. holds-move (W .others i (omega arith)) (same-at s s₁ (1 + i) (0 + i) (1 + i) i refl (omega arith) (M .moved i lt));
+}
+
+-- Exchanging runs of one length
+
+-- of the first n records and the n after them, the first i have changed places
+pub record Paired (s₀ s : List ℕ) (n i : ℕ) : Type 0 where
+  pub low : i ≤ n
+  pub len : length s ≡ length s₀
+  pub first : (k : ℕ) → k < i → Same s₀ k s (n + k)
+  pub second : (k : ℕ) → k < i → Same s₀ (n + k) s k
+  pub third : (k : ℕ) → i ≤ k → k < n → Same s₀ k s k
+  pub fourth : (k : ℕ) → i ≤ k → k < n → Same s₀ (n + k) s (n + k)
+
+pub paired-none : {s : List ℕ} {n : ℕ} → Paired s s n 0
+paired-none {s} {n} = record {
+  low = omega arith;
+  len = refl;
+  first = λ k a. absurd (omega arith);
+  second = λ k a. absurd (omega arith);
+  third = λ k a b. itself s k;
+  fourth = λ k a b. itself s (n + k);
+}
+
+pub paired-more : (s₀ s s′ : List ℕ) (n i j i′ : ℕ) → Paired s₀ s n i → i < n → j ≡ n + i → i′ ≡ i + 1 → Swapped s s′ i j → length s′ ≡ length s → Paired s₀ s′ n i′
+paired-more s₀ s s′ n i j i′ P lt ej ei W l =
+    let other : (k m : ℕ) → (m ≡ i → ⊥) → (m ≡ j → ⊥) → Same s₀ k s m → Same s₀ k s′ m = λ k m ni nj S. holds-move (W .others m ni nj) S in
+    record {
+      low = omega arith;
+      len = l ∙ P .len;
+      first = λ k a. elim (ℕ-discrete k i) [
+        | yes q ↦ same-at s₀ s′ i j k (n + k) (sym q) (omega arith) (holds-move (W .first) (P .third i (omega arith) lt))
+        | no q ↦ other k (n + k) (omega arith) (omega arith) (P .first k (omega arith))
+      ];
+      second = λ k a. elim (ℕ-discrete k i) [
+        | yes q ↦ same-at s₀ s′ j i (n + k) k (omega arith) (sym q) (holds-move (W .second) (same-at s₀ s (n + i) (n + i) j j (sym ej) (sym ej) (P .fourth i (omega arith) lt)))
+        | no q ↦ other (n + k) k (omega arith) (omega arith) (P .second k (omega arith))
+      ];
+      third = λ k a b. other k k (omega arith) (omega arith) (P .third k (omega arith) b);
+      fourth = λ k a b. other (n + k) (n + k) (omega arith) (omega arith) (P .fourth k (omega arith) b);
+    }
+
+pub paired-all : (s₀ s : List ℕ) (n i : ℕ) → Paired s₀ s n i → n ≤ i → Exchanged s₀ s n n
+paired-all s₀ s n i P le = record { first = λ k lt. P .first k (omega arith); second = λ k lt. P .second k (omega arith) }

@@ -14,7 +14,7 @@ use Rattle.qptr.specs.Values.{sizeOf}
 use Rattle.qptr.specs.declared.MaxSize.{MaxSize}
 use Rattle.qptr.specs.declared.MaxSize.the-variants.{Fixed, Dynamic}
 use Rattle.records.specs.Words.{word, put}
-use Rattle.records.specs.Records.{sizeFrom, commandIn, countIn, sizeIn, argumentIn, offsetIn, Same, Written, Sized, Counted, Shifted, Typed, Swapped}
+use Rattle.records.specs.Records.{sizeFrom, commandIn, countIn, sizeIn, argumentIn, offsetIn, Same, Written, Sized, Counted, Shifted, Typed, Assigned, Swapped, tagIn, pastIn, Marked}
 use Rattle.records.proofs.Words.{length-put, word-put, word-put-other}
 use Rattle.records.proofs.Usages.{holds-move}
 
@@ -124,16 +124,48 @@ worded {s} {s₁} {s₂} {s₃} {s₄} {q} {c} {n} {f} {z} e₁ e₂ e₃ e₄ e
     let l₄ : length s₄ ≡ length s₃ = length-stored s₃ s₄ (q * 32 + 12) z e₄ in
     written e₁ e₂ (sized s₂ s₃ s₄ q f z e₃ e₄ (omega arith) ff fz) e₅ e₆ h (omega arith) fc fn ft fo
 
+-- The spare words
+
+module _ (s s′ : List ℕ) (q y v i : ℕ) (e : s′ ≡ put s i v) (place : i ≡ q * 32 + y * 4) (spare : 6 ≤ y) (inside : y < 8) where
+  spare-same : (k : ℕ) → Same s k s′ k
+  spare-same k = record {
+    command = rw e (word-put-other s i v (k * 32) (omega arith));
+    nodes = rw e (word-put-other s i v (k * 32 + 4) (omega arith));
+    size = rw (e, word-put-other s i v (k * 32 + 8) (omega arith), word-put-other s i v (k * 32 + 12) (omega arith));
+    argument = rw e (word-put-other s i v (k * 32 + 16) (omega arith));
+    offset = rw e (word-put-other s i v (k * 32 + 20) (omega arith));
+  }
+
+pub marked : (s s₁ s₂ : List ℕ) (q t p : ℕ) → s₁ ≡ put s (q * 32 + 24) t → s₂ ≡ put s₁ (q * 32 + 28) p → q * 32 + 32 ≤ length s → t < 4294967296 → p < 4294967296 → Marked s s₂ q t p
+marked s s₁ s₂ q t p e₁ e₂ h ft fp =
+    let A : (k : ℕ) → Same s k s₁ k = spare-same s s₁ q 6 t (q * 32 + 24) e₁ (omega arith) (omega arith) (omega arith) in
+    let B : (k : ℕ) → Same s₁ k s₂ k = spare-same s₁ s₂ q 7 p (q * 32 + 28) e₂ (omega arith) (omega arith) (omega arith) in
+    let l : length s₁ ≡ length s = length-stored s s₁ (q * 32 + 24) t e₁ in
+    record {
+      same = λ i. holds-move (B i) (A i);
+      tag = rw (e₂, word-put-other s₁ (q * 32 + 28) p (q * 32 + 24) (omega arith), e₁) (word-put s (q * 32 + 24) t (omega arith) ft);
+      past = rw e₂ (word-put s₁ (q * 32 + 28) p (omega arith) fp);
+      tags = λ i ne. rw (e₂, word-put-other s₁ (q * 32 + 28) p (i * 32 + 24) (omega arith), e₁) (word-put-other s (q * 32 + 24) t (i * 32 + 24) (omega arith));
+      pasts = λ i ne. rw (e₂, word-put-other s₁ (q * 32 + 28) p (i * 32 + 28) (omega arith), e₁) (word-put-other s (q * 32 + 24) t (i * 32 + 28) (omega arith));
+    }
+
 -- Two records
+
+-- a record read into words, and written from them
+pub saved : (s : List ℕ) (q : ℕ) {s₁ s₂ : List ℕ} {p c n f z t o : ℕ} → c ≡ commandIn s q → n ≡ countIn s q → f ≡ word s (q * 32 + 8) → z ≡ word s (q * 32 + 12) → t ≡ argumentIn s q → o ≡ offsetIn s q
+    → Written s₁ s₂ p c n (sizeFrom f z) t o → Same s q s₂ p
+saved s q ec en ef ez et eo W = let H : _ = W .here in record { command = cc; nodes = cc; size = cc; argument = cc; offset = cc }
+
+pub assigned : {s s′ : List ℕ} {to from c n f z t o : ℕ} → c ≡ commandIn s from → n ≡ countIn s from → f ≡ word s (from * 32 + 8) → z ≡ word s (from * 32 + 12) → t ≡ argumentIn s from → o ≡ offsetIn s from
+    → Written s s′ to c n (sizeFrom f z) t o → Assigned s s′ to from
+assigned {s} {from} ec en ef ez et eo W = record { here = saved s from ec en ef ez et eo W; others = W .others }
 
 pub swapped : {s s₁ s₂ : List ℕ} {i j c n f z t o jc jn jf jz jt jo : ℕ} → i < j
     → c ≡ commandIn s i → n ≡ countIn s i → f ≡ word s (i * 32 + 8) → z ≡ word s (i * 32 + 12) → t ≡ argumentIn s i → o ≡ offsetIn s i
     → jc ≡ commandIn s j → jn ≡ countIn s j → jf ≡ word s (j * 32 + 8) → jz ≡ word s (j * 32 + 12) → jt ≡ argumentIn s j → jo ≡ offsetIn s j
     → Written s s₁ i jc jn (sizeFrom jf jz) jt jo → Written s₁ s₂ j c n (sizeFrom f z) t o → Swapped s s₂ i j
-swapped {s} {s₁} {s₂} {i} lt ec en ef ez et eo ejc ejn ejf ejz ejt ejo A B =
-    let kept : Same s₁ i s₂ i = B .others i (omega arith) in
-    record {
-      first = record { command = cc; nodes = cc; size = cc; argument = cc; offset = cc };
-      second = record { command = cc; nodes = cc; size = cc; argument = cc; offset = cc };
-      others = λ k ni nj. holds-move (B .others k nj) (A .others k ni);
-    }
+swapped {s} {i} {j} lt ec en ef ez et eo ejc ejn ejf ejz ejt ejo A B = record {
+  first = saved s i ec en ef ez et eo B;
+  second = holds-move (B .others i (omega arith)) (saved s j ejc ejn ejf ejz ejt ejo A);
+  others = λ k ni nj. holds-move (B .others k nj) (A .others k ni);
+}

@@ -27,6 +27,14 @@ argumentIn s q = word s (q * 32 + 16)
 abbrev pub offsetIn : List ℕ → ℕ → ℕ
 offsetIn s q = word s (q * 32 + 20)
 
+-- the spare words
+
+abbrev pub tagIn : List ℕ → ℕ → ℕ
+tagIn s q = word s (q * 32 + 24)
+
+abbrev pub pastIn : List ℕ → ℕ → ℕ
+pastIn s q = word s (q * 32 + 28)
+
 -- what record q of s says
 pub record Holds (s : List ℕ) (q c n : ℕ) (z : Size) (t o : ℕ) : Type 0 where
   pub command : commandIn s q ≡ c
@@ -56,6 +64,23 @@ Shifted s s′ q o = Written s s′ q (commandIn s q) (countIn s q) (sizeIn s q)
 
 abbrev pub Typed : List ℕ → List ℕ → ℕ → ℕ → ℕ → Type 0
 Typed s s′ q c t = Written s s′ q c (countIn s q) (sizeIn s q) t (offsetIn s q)
+
+-- record `to` says what record `from` said, and all others say what they said
+pub record Assigned (s s′ : List ℕ) (to from : ℕ) : Type 0 where
+  pub here : Same s from s′ to
+  pub others : (i : ℕ) → (i ≡ to → ⊥) → Same s i s′ i
+
+-- the first n records stand one higher
+abbrev pub Raised : List ℕ → List ℕ → ℕ → Type 0
+Raised s s′ n = (i : ℕ) → i < n → Same s i s′ (1 + i)
+
+-- the spare words of record q are written, and nothing else
+pub record Marked (s s′ : List ℕ) (q t p : ℕ) : Type 0 where
+  pub same : (i : ℕ) → Same s i s′ i
+  pub tag : tagIn s′ q ≡ t
+  pub past : pastIn s′ q ≡ p
+  pub tags : (i : ℕ) → (i ≡ q → ⊥) → tagIn s′ i ≡ tagIn s i
+  pub pasts : (i : ℕ) → (i ≡ q → ⊥) → pastIn s′ i ≡ pastIn s i
 
 -- n records from `from` on stand from `to` on; what lies below `to`, and what lies past them, is as it was
 pub record Moved (s s′ : List ℕ) (to from n : ℕ) : Type 0 where

@@ -4,7 +4,7 @@ ghost use Prim.Native.Nat.{_+_, _*_, _<_, _≤_};
 ghost use lib.ListN.{length};
 ghost use Rattle.qptr.specs.Values.{sizeOf};
 ghost use Rattle.records.specs.Words.{word, put, Copied};
-ghost use Rattle.records.specs.Records.{sizeFrom, commandIn, countIn, sizeIn, argumentIn, offsetIn, Moved, Exchanged, Sized, Counted, Shifted, Typed, Written, Swapped, Reversed};
+ghost use Rattle.records.specs.Records.{sizeFrom, commandIn, countIn, sizeIn, argumentIn, offsetIn, Moved, Exchanged, Sized, Counted, Shifted, Typed, Written, Assigned, Raised, Swapped, Reversed, tagIn, pastIn, Marked};
 use qptr::MaxSize;
 
 // The bytes of a record.
@@ -127,6 +127,30 @@ pub fn put_record(s: &mut [u8], q: usize, c: u32, n: u32, z: MaxSize, t: u32, o:
     put32(s, q * 32 + 20, o);
 }
 
+// The two spare words of record q: what it remembers, which no usage depends on.
+
+pub fn tag(s: &[u8], q: usize) -> u32
+    requires { ⌜ q * 32 + 32 ≤ length (now s) ⌝ }
+    ensures { λ r. ⌜ r ≡ tagIn (now (s .entry)) q ⌝ }
+{
+    get32(s, q * 32 + 24)
+}
+
+pub fn past(s: &[u8], q: usize) -> u32
+    requires { ⌜ q * 32 + 32 ≤ length (now s) ⌝ }
+    ensures { λ r. ⌜ r ≡ pastIn (now (s .entry)) q ⌝ }
+{
+    get32(s, q * 32 + 28)
+}
+
+pub fn put_mark(s: &mut [u8], q: usize, tag: u32, past: u32)
+    requires { ⌜ q * 32 + 32 ≤ length (now s) ⌝ }
+    ensures { λ r. ⌜ Marked (now (s .entry)) (now (s .exit)) q tag past ⌝ }
+{
+    put32(s, q * 32 + 24, tag);
+    put32(s, q * 32 + 28, past);
+}
+
 // n bytes from `from` on go to `to`, which is not above it.
 fn copy_down(s: &mut [u8], to: usize, from: usize, n: usize)
     requires { ⌜ (to ≤ from) × (from + n ≤ length (now s)) ⌝ }
@@ -198,11 +222,91 @@ fn reverse(s: &mut [u8], f: usize, t: usize)
     }
 }
 
-// The first n records and the m after them change places.
+// Record `to` says what record `from` says.
+fn assign(s: &mut [u8], to: usize, from: usize)
+    requires { ⌜ (to * 32 + 32 ≤ length (now s)) × (from * 32 + 32 ≤ length (now s)) ⌝ }
+    ensures { λ r. ⌜ Assigned (now (s .entry)) (now (s .exit)) to from ⌝ }
+{
+    let c = command(s, from);
+    let n = get32(s, from * 32 + 4);
+    let f = get32(s, from * 32 + 8);
+    let z = get32(s, from * 32 + 12);
+    let t = argument(s, from);
+    let o = offset(s, from);
+    put_words(s, to, c, n, f, z, t, o);
+}
+
+// The first n records move up by one, over the record after them.
+fn raise(s: &mut [u8], n: usize)
+    requires { ⌜ n * 32 + 32 ≤ length (now s) ⌝ }
+    ensures { λ r. ⌜ Raised (now (s .entry)) (now (s .exit)) n ⌝ }
+{
+    let mut i = n;
+    while 0 < i {
+        i = i - 1;
+        assign(s, i + 1, i);
+    }
+}
+
+// The first n records and the one after them change places.
+fn rotate_up(s: &mut [u8], n: usize)
+    requires { ⌜ n * 32 + 32 ≤ length (now s) ⌝ }
+    ensures { λ r. ⌜ Exchanged (now (s .entry)) (now (s .exit)) n 1 ⌝ }
+{
+    let c = command(s, n);
+    let k = get32(s, n * 32 + 4);
+    let f = get32(s, n * 32 + 8);
+    let z = get32(s, n * 32 + 12);
+    let t = argument(s, n);
+    let o = offset(s, n);
+    raise(s, n);
+    put_words(s, 0, c, k, f, z, t, o);
+}
+
+// The first record and the m after it change places.
+fn rotate_down(s: &mut [u8], m: usize)
+    requires { ⌜ m * 32 + 32 ≤ length (now s) ⌝ }
+    ensures { λ r. ⌜ Exchanged (now (s .entry)) (now (s .exit)) 1 m ⌝ }
+{
+    let c = command(s, 0);
+    let k = get32(s, 4);
+    let f = get32(s, 8);
+    let z = get32(s, 12);
+    let t = argument(s, 0);
+    let o = offset(s, 0);
+    move_down(s, 0, 1, m);
+    put_words(s, m, c, k, f, z, t, o);
+}
+
+// The first n records and the n after them change places, one for one.
+fn swap_runs(s: &mut [u8], n: usize)
+    requires { ⌜ (n + n) * 32 ≤ length (now s) ⌝ }
+    ensures { λ r. ⌜ Exchanged (now (s .entry)) (now (s .exit)) n n ⌝ }
+{
+    let mut i = 0;
+    while i < n {
+        swap(s, i, n + i);
+        i = i + 1;
+    }
+}
+
+// The first n records and the m after them change places: with few moves if the runs are equally long or one of them is a single record.
 pub fn exchange(s: &mut [u8], n: usize, m: usize)
     requires { ⌜ length (now s) ≡ (n + m) * 32 ⌝ }
     ensures { λ r. ⌜ Exchanged (now (s .entry)) (now (s .exit)) n m ⌝ }
 {
+    if m == n {
+        swap_runs(s, n);
+        return;
+    }
+    if m == 1 {
+        rotate_up(s, n);
+        return;
+    }
+    if n == 1 {
+        rotate_down(s, m);
+        return;
+    }
     let end = n + m;
     reverse(s, 0, n);
     reverse(s, n, end);
