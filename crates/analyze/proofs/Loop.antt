@@ -6,7 +6,7 @@ use mathlib.Core.List.{List, [], _∷_, _++_}
 use native.Mathlib.Decide.{decLt}
 use native.Mathlib.Omega.{arith}
 use lib.ListN.{length, take, drop, length-append}
-use Rattle.definitions.specs.Limits.{max32}
+use Rattle.definitions.specs.Limits.{max32, nodeLimit}
 use Rattle.definitions.specs.Usage.{Usage, nodes}
 use Rattle.definitions.specs.Table.{Setting}
 use Rattle.definitions.specs.Place.{Result, refused, done, place}
@@ -27,7 +27,7 @@ pub record Loop (table places s₀ rep₀ : List ℕ) (st₀ : State) (at total 
   pub same-len : length s ≡ length s₀
   pub rep-len : length rep ≡ length rep₀
   pub some : 1 ≤ total
-  pub small : total ≤ 65536
+  pub small : total ≤ nodeLimit
   pub near : Near at total
   pub setting : Setting
   pub known : Known table places setting

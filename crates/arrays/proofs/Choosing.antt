@@ -53,7 +53,7 @@ module _ (s rep : List ℕ) (na d nb at : ℕ) (B : Beside s na nb) (plain : Pla
       go setting fits (is-array z n v) b two =
           let own : argumentIn s 0 ≡ n = two .left .0 .argument in
           rw own (pending-element setting s rep na nb (d % n) at z n v (two .left-offset) (two .left) (two .left-nodes) (two .left-fits) small _ (na + nb) b
-          (two .right-offset) (two .right) (two .right-nodes) (two .right-fits) (B .small)
+          (two .right-offset) (two .right) (two .right-nodes) (two .right-fits) (omega (arith, B .small))
           (ap (after [] 1) (sym (right-plain two setting (place setting) d plain ∙ array-fits setting z n v d b (rw (own, right-size two) at fits)))))
 
   -- b's element goes into the element

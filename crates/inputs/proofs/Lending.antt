@@ -7,6 +7,7 @@ use mathlib.Core.List.{List, _++_}
 use native.Mathlib.Omega.{arith}
 use lib.ListN.{length, take, drop}
 use lib.Seq.{length-take-le}
+use Rattle.definitions.specs.Limits.{nodeLimit}
 use Rattle.definitions.specs.Usage.{Usage, nodes}
 use Rattle.definitions.specs.Table.{Setting}
 use Rattle.definitions.specs.Inner.Storable.{Storable}
@@ -41,7 +42,7 @@ module _ {n m : ℕ} (work : List ℕ) (inside : (n + m) * 32 ≤ length work) w
         right-fits = right-fits;
       })
 
-pub ready-lent : {table places s : List ℕ} {n m : ℕ} {st : Setting} {a b : Usage} → Known table places st → Two (length (st .table)) s n m a b → n + m ≤ 65536
+pub ready-lent : {table places s : List ℕ} {n m : ℕ} {st : Setting} {a b : Usage} → Known table places st → Two (length (st .table)) s n m a b → n + m ≤ nodeLimit
     → Ready table places s n m
 ready-lent {st} {a} {b} known two small = record {
   setting = st;

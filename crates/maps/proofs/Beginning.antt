@@ -24,13 +24,15 @@ use Rattle.states.specs.declared.State.{State}
 use Rattle.states.proofs.Ending.{numbers-refused, next-refused}
 use Rattle.states.proofs.Roots.{IsMap, is-map, left-map, left-size, right-size, right-plain}
 use Rattle.states.proofs.Room.{room-first}
-use Rattle.maps.specs.Numbers.{Marks, Past}
-use Rattle.maps.specs.Runs.{Run}
-use Rattle.maps.specs.Search.{Ended, nothing, by, Starting, Parted, Parts}
+use Rattle.search.specs.Numbers.{Marks}
+use Rattle.search.specs.Runs.{Lies}
+use Rattle.search.specs.Parts.{Ended, nothing, by, Parted, Parts}
+use Rattle.search.specs.declared.Overlap.{Overlap}
+use Rattle.search.proofs.Behind.{append-assoc}
+use Rattle.maps.specs.Numbers.{Past}
 use Rattle.maps.specs.Joining.{Turned, Rows}
-use Rattle.maps.specs.declared.Overlap.{Overlap}
-use Rattle.maps.proofs.Entries.{append-assoc, under-of, upto-one-more}
-use Rattle.maps.proofs.Overlaps.{found-past, found-parts}
+use Rattle.maps.proofs.Entries.{under-of, upto-one-more}
+use Rattle.maps.proofs.Overlaps.{Starting, high-starting, found-past, found-parts}
 use Rattle.maps.proofs.Downward.{join-down}
 use Rattle.maps.proofs.Stepping.{rows-of}
 
@@ -50,8 +52,16 @@ mapped {k} {s} {na} two c = go (left-map two c) (two .left) (two .left-nodes) (t
     go : {a : Usage} → IsMap a → At a s 0 (two .left-offset) → nodes a ≡ na → Storable k a → Mapped k a s na
     go (is-map z es) r n h = record { z = z; es = es; is = refl; held = r .1; count = omega arith; fits = h }
 
-pub run-of : {s : List ℕ} {na nb : ℕ} → Beside s na nb → commandIn s 0 ≡ 3 → Run s 1 na
-run-of B c = let A = mapped (B .two) c in record { es = A .es; held = A .held; ends = A .count }
+pub entries-lie : {s : List ℕ} {na nb : ℕ} → Beside s na nb → commandIn s 0 ≡ 3 → Lies s 1 na
+entries-lie B c =
+    let A = mapped (B .two) c in
+    record {
+      some = omega arith;
+      upto = omega (arith, B .left-some);
+      most = omega (arith, B .small);
+      long = omega (arith, B .two .len);
+      run = record { es = A .es; held = A .held; ends = A .count };
+    }
 
 -- The definition
 
@@ -102,14 +112,13 @@ module _ {s : List ℕ} {na d nb e : ℕ} (rep : List ℕ) (at : ℕ) {st : Stat
   pub refused-end : {r : Bool} → Past e r → r ≡ true → Starts s na d nb rep at s rep st
   refused-end T t = refuses (λ setting z es b N h n g. map-past setting z es d b (sym (T .of (ends d (size b)) N) ∙ t))
 
-  pub refused-entry : {found : Overlap} {r : Bool} → d < 4294967296 → Past e r → r ≡ false → Parts s na d e found → found .past ≡ true → Starts s na d nb rep at s rep st
+  pub refused-entry : {found : Overlap} {r : Bool} → d < 4294967296 → Past e r → r ≡ false → Parts s 1 na d e found → found .past ≡ true → Starts s na d nb rep at s rep st
   refused-entry small T t F p = refuses (λ setting z es b N h n g.
       let y : Size = ends d (size b) in
-      let Q = F .parted (length (setting .table)) y es N h n (g .1) in
-      let X = Q .passed in
+      let X = F .parted y es N h n in
       map-fine setting z es d b (sym (T .of y N) ∙ t)
       ∙ ap (λ x. joinFound setting (place setting) z d b (overlapping d y x)) (X .is)
-      ∙ ap (joinFound setting (place setting) z d b) (found-past d y (X .low) (X .mid) (X .high) (omega arith) (X .low-ended) (X .mid-crossing) (Q .starting) (sym (X .mid-past) ∙ p)))
+      ∙ ap (joinFound setting (place setting) z d b) (found-past d y (X .low) (X .mid) (X .high) (omega arith) (X .low-ended) (X .mid-crossing) (high-starting (length (setting .table)) X (g .1)) (sym (X .mid-past) ∙ p)))
 
 -- Begun
 
@@ -135,7 +144,7 @@ startState found d nb at = record {
 
 -- s₁: b has come to stand behind the entries that overlap
 module _ (s s₁ : List ℕ) (na d nb at e : ℕ) (found : Overlap) {r : Bool} (small : d < 4294967296) (P : Plain (commandIn s na) d) (c : commandIn s 0 ≡ 3) (M : Marks e (ends d (sizeIn s na)))
-    (T : Past e r) (t : r ≡ false) (F : Parts s na d e found) (fine : found .past ≡ false) (X : Turned s s₁ (found .upto) (na - found .upto) nb) where
+    (T : Past e r) (t : r ≡ false) (F : Parts s 1 na d e found) (fine : found .past ≡ false) (X : Turned s s₁ (found .upto) (na - found .upto) nb) where
   record Begun (k : ℕ) (a b : Usage) : Type 0 where
     z : Size
     low : Entries
@@ -146,22 +155,23 @@ module _ (s s₁ : List ℕ) (na d nb at e : ℕ) (found : Overlap) {r : Bool} (
     stands : At b s₁ (found .upto) offset
     comes : (setting : Setting) → finish setting (joins z low mid high d) b [] 0 ≡ after [] 1 (placeByKind setting (place setting) a d b)
 
-  module _ {k : ℕ} {a b : Usage} (two : Two k s na nb a b) (A : Mapped k a s na) (N : Marks e (ends d (size b))) (Q : Parted (A .es) s na d (ends d (size b)) found) where
+  module _ {k : ℕ} {a b : Usage} (two : Two k s na nb a b) (A : Mapped k a s na) (N : Marks e (ends d (size b))) (G : Parted (A .es) s 1 na d (ends d (size b)) found) where
+    high-later : Starting (ends d (size b)) (G .high)
+    high-later = high-starting k G (A .fits .1)
+
     comes-to : (setting : Setting) → placeByKind setting (place setting) a d b
-        ≡ rebuilt (A .z) (Q .passed .low) (Q .passed .high) (joinDown setting (Q .passed .mid) (joined d b [] 0))
+        ≡ rebuilt (A .z) (G .low) (G .high) (joinDown setting (G .mid) (joined d b [] 0))
     comes-to setting =
         let y : Size = ends d (size b) in
-        let G = Q .passed in
         into-map setting two A P
         ∙ map-fine setting (A .z) (A .es) d b (sym (T .of y N) ∙ t)
         ∙ ap (λ x. joinFound setting (place setting) (A .z) d b (overlapping d y x)) (G .is)
-        ∙ found-parts d y (G .low) (G .mid) (G .high) (omega arith) (G .low-ended) (G .mid-crossing) (Q .starting) setting (place setting) (A .z) b (sym (G .mid-past) ∙ fine)
+        ∙ found-parts d y (G .low) (G .mid) (G .high) (omega arith) (G .low-ended) (G .mid-crossing) high-later setting (place setting) (A .z) b (sym (G .mid-past) ∙ fine)
         ∙ ap (rebuilt (A .z) (G .low) (G .high)) (join-down setting (G .mid) d b)
 
     begun-from : Begun k a b
     unfolding finish
     begun-from =
-        let G = Q .passed in
         let up : Ascends k 0 (G .low <+> G .mid <+> G .high) = rw (G .is) at (A .fits .1) in
         let top = X .below 0 (omega (arith, F .some, F .mid)) in
         let upto : ℕ = found .upto in
@@ -185,7 +195,7 @@ module _ (s s₁ : List ℕ) (na d nb at e : ℕ) (found : Overlap) {r : Bool} (
             high-ends = omega (arith, G .high-count);
             ascends = up;
             low-by = upto-ended k d (ends d (size b)) (G .mid <+> G .high) (G .low-ended) up;
-            high-from = from-starting d (size b) (G .high) (Q .starting);
+            high-from = from-starting d (size b) (G .high) high-later;
             offset-fits = omega arith;
           };
           offset = two .right-offset;
@@ -198,7 +208,7 @@ module _ (s s₁ : List ℕ) (na d nb at e : ℕ) (found : Overlap) {r : Bool} (
   begun {k} {b} two =
       let A = mapped two c in
       let N : Marks e (ends d (size b)) = rw (right-size two) at M in
-      begun-from two A N (F .parted k (ends d (size b)) (A .es) N (A .held) (A .count) (A .fits .1))
+      begun-from two A N (F .parted (ends d (size b)) (A .es) N (A .held) (A .count))
 
   pub begun-waits : Beside s na nb → length s₁ ≡ length s → Waiting s₁ (startState found d nb at) nb (na + nb) × Rows s₁ (startState found d nb at) (na + nb)
   unfolding Outside

@@ -9,9 +9,9 @@ use Rattle.definitions.specs.Place.{ends}
 use Rattle.definitions.proofs.PlaceFuel.{mergeMem-is}
 use Rattle.records.specs.Records.{sizeIn}
 use Rattle.states.specs.States.{act}
-use Rattle.maps.specs.Numbers.{Marks}
+use Rattle.search.specs.Numbers.{Marks}
+use Rattle.search.proofs.Marking.{marks-le, marks-lt}
 use Rattle.maps.specs.Joining.{apart, intoEntry, intoB, Joint}
-use Rattle.maps.proofs.Marking.{marks-le, marks-lt}
 
 module _ {s : List ℕ} {l x o d y z : ℕ} (M : Marks y (ends o (sizeIn s l))) (N : Marks z (ends d (sizeIn s x))) where
   pub straddles-below : o < d → y < z → Joint s l x o d (apart o d)

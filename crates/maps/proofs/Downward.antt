@@ -7,7 +7,7 @@ use Rattle.definitions.specs.Usage.{Size, Usage, map, Entries, none, entry, _<+
 use Rattle.definitions.specs.Table.{Setting}
 use Rattle.definitions.specs.Place.{Result, refused, done, after, Joining, barred, straddled, joined, joinedAt, joinEntry, joinNext, join, rebuilt, place, ofRule, insert}
 use Rattle.states.specs.States.{joins, joinDown, finish, resume}
-use Rattle.maps.proofs.Entries.{append-none}
+use Rattle.search.proofs.Behind.{append-none}
 
 module _ (st : Setting) where
   pub join-down : (es : Entries) (d : ℕ) (b : Usage) → join st (place st) es d b ≡ joinDown st es (joined d b [] 0)

@@ -18,9 +18,9 @@ use Rattle.states.specs.Ends.{finishedState, finishedAt, Unheaded}
 use Rattle.states.specs.Fingers.{Between, Finger}
 use Rattle.states.specs.declared.State.{State}
 use Rattle.states.proofs.Ending.{numbers-finished, next-at, next-finished, emitted-unheaded}
+use Rattle.search.proofs.Behind.{append-assoc, no-nodes}
 use Rattle.maps.specs.Runs.{LastAt}
 use Rattle.maps.specs.Joining.{Rows, Closed, GoesAt, GoesOn, apart, Joint, Straddled}
-use Rattle.maps.proofs.Entries.{append-assoc, no-nodes}
 use Rattle.maps.proofs.Downward.{finish-straddled, finish-none}
 use Rattle.maps.proofs.Inserting.{insert-between}
 use Rattle.maps.proofs.Replacing.{Behind, last-kept}

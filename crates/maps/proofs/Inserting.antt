@@ -10,7 +10,7 @@ use Rattle.definitions.specs.Place.{insert}
 use Rattle.definitions.specs.Inner.Storable.{Ascends}
 use Rattle.definitions.proofs.Storable.{ascends-back}
 use Rattle.maps.specs.Joining.{Under, Over, Lowered, Lowered.whole, Lowered.short, Raised, Raised.whole, Raised.short}
-use Rattle.maps.proofs.Entries.{append-assoc}
+use Rattle.search.proofs.Behind.{append-assoc}
 
 module _ (d : ℕ) (b : Usage) where
   insert-behind : (es fs : Entries) → Under d es → insert d b (es <+> fs) ≡ es <+> insert d b fs

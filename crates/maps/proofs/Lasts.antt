@@ -9,8 +9,9 @@ use Rattle.definitions.proofs.Nodes.{append-nodes}
 use Rattle.records.specs.Records.{offsetIn}
 use Rattle.records.specs.Usages.{EntriesAt}
 use Rattle.records.proofs.Usages.{one-entry, entries-join}
-use Rattle.maps.specs.Runs.{Run, FirstHas, LastAt}
-use Rattle.maps.proofs.Entries.{append-assoc, no-nodes, first-of, run-rest, Before}
+use Rattle.search.specs.Runs.{Run, FirstHas}
+use Rattle.search.proofs.Behind.{append-assoc, no-nodes, first-of, run-rest}
+use Rattle.maps.specs.Runs.{Before, LastAt}
 
 -- whatever entries stand there, one of them begins at q, and has m nodes
 pub record Seeking (s : List ℕ) (from e q m : ℕ) : Type 0 where

@@ -3,7 +3,7 @@ pub mod Entries
 pub mod Marking
 -- the search
 pub mod Overlaps
-pub mod Scanning
+pub mod Searching
 pub mod Lasts
 -- what the definition gives, step by step
 pub mod Downward

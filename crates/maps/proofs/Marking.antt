@@ -1,33 +1,17 @@
--- Numbers that stand for places are in their order: a dynamic place's number is above that of any fixed one.
+-- The numbers of where things end; a dynamic place's number is above that of any fixed one, and not past 32 bits.
 -- Assumes nothing.
 use Prim.Native.Nat.{ℕ, _+_, _<_, _≤_}
-use mathlib.Core.Path.{_≡_, refl, sym, ap, _∙_}
-use mathlib.Core.Bool.{Bool, true, false}
+use mathlib.Core.Path.{_≡_, refl, ap}
+use mathlib.Core.Bool.{false}
 use native.Mathlib.Omega.{arith}
 use lib.Dec.{ltb}
-use borrow.Author.Tests.{le-leb, lt-leb}
 use Rattle.definitions.specs.Usage.{Size, fixed, dynamic}
-use Rattle.definitions.specs.Place.{ends, past32, _≤ˢ_}
+use Rattle.definitions.specs.Place.{ends, past32}
 use Rattle.qptr.specs.Values.{sizeOf}
 use Rattle.qptr.specs.declared.MaxSize.{MaxSize}
 use Rattle.qptr.specs.declared.MaxSize.the-variants.{Fixed, Dynamic}
-use Rattle.maps.specs.Numbers.{aboveAll, Marks, Past}
-use Rattle.maps.specs.Search.{Entered}
-use Rattle.maps.specs.declared.Overlap.{Overlap}
-
-pub marks-fixed : {o : ℕ} → o < 4294967296 → Marks o (fixed o)
-marks-fixed h = record { is = refl; small = omega arith }
-
-pub marks-le : {e f : ℕ} (z y : Size) → Marks e z → Marks f y → e ≤ f → (z ≤ˢ y) ≡ true
-marks-le z dynamic M N le = refl
-marks-le dynamic (fixed n) M N le = absurd (omega (arith, M .is, N .is, N .small))
-marks-le (fixed m) (fixed n) M N le = le-leb m n (omega (arith, M .is, N .is))
-
-pub marks-lt : {e f : ℕ} (z y : Size) → Marks e z → Marks f y → f < e → (z ≤ˢ y) ≡ false
-marks-lt dynamic dynamic M N lt = absurd (omega (arith, M .is, N .is))
-marks-lt (fixed m) dynamic M N lt = absurd (omega (arith, M .is, M .small, N .is))
-marks-lt dynamic (fixed n) M N lt = refl
-marks-lt (fixed m) (fixed n) M N lt = lt-leb m n (omega (arith, M .is, N .is))
+use Rattle.search.specs.Numbers.{aboveAll, Marks}
+use Rattle.maps.specs.Numbers.{Past}
 
 -- where something ends
 
@@ -55,15 +39,3 @@ past-tested {e} h = record { of = go }
     go : (z : Size) → Marks e z → ltb 4294967295 e ≡ past32 z
     go dynamic M = absurd (omega (arith, M .is))
     go (fixed n) M = ap (ltb 4294967295) (M .is)
-
--- one entry more that the search passes
-
-pub entered-below : {found : Overlap} {here next z d : ℕ} → z ≤ d → Entered found here next z d (record { past = false; first = next; upto = next; low = here })
-entered-below le = record { below = λ _. refl; across = λ lt. absurd (omega arith) }
-
-module _ {found : Overlap} {here next z d : ℕ} {r : Bool} (P : Past z r) (lt : d < z) where
-  pub entered-past : r ≡ true → Entered found here next z d (record { past = true; first = found .first; upto = next; low = found .low })
-  entered-past t = record { below = λ le. absurd (omega arith); across = λ _ e M. rw (sym (P .of e M) ∙ t) }
-
-  pub entered-fine : r ≡ false → Entered found here next z d (record { past = found .past; first = found .first; upto = next; low = found .low })
-  entered-fine t = record { below = λ le. absurd (omega arith); across = λ _ e M. rw (sym (P .of e M) ∙ t) }

@@ -1,8 +1,9 @@
--- The downward search finds what an upward one parts: it passes over those from e on, collects those that cross, and stops at the last that ends by d.
+-- The definition's search finds what the code's parts: it passes over those from e on, collects those that cross, and stops at the last that ends by d.
 -- Assumes nothing.
 use Prim.Native.Nat.{ℕ, suc, _≤_}
 use mathlib.Core.Path.{_≡_, refl, ap, _∙_}
 use mathlib.Core.Bool.{Bool, true, false, _||_, true≢false, false≢true}
+use mathlib.Core.List.{List}
 use native.Mathlib.Omega.{arith}
 use borrow.Author.Tests.{leb-true, le-leb, le-ltb}
 use Rattle.definitions.specs.If.{if_then_else_}
@@ -11,8 +12,15 @@ use Rattle.definitions.specs.Usage.{Size, fixed, dynamic, Usage, Entries, none,
 use Rattle.definitions.specs.Table.{Setting}
 use Rattle.definitions.specs.Place.{Placing, ends, past32, _≤ˢ_, past, searching, stopped, overlapNext, overlapping, join, rebuilt, joinFound}
 use Rattle.definitions.specs.Inner.Storable.{Ascends}
-use Rattle.maps.specs.Search.{Crossing, anyPast, Ended, nothing, by, Starting}
-use Rattle.maps.proofs.Entries.{append-assoc}
+use Rattle.definitions.proofs.Storable.{ascends-back}
+use Rattle.search.specs.Parts.{Crossing, anyPast, Ended, nothing, by, Starts, Parted}
+use Rattle.search.specs.declared.Overlap.{Overlap}
+use Rattle.search.proofs.Behind.{append-assoc}
+
+-- each starts at e or later
+abbrev pub Starting : Size → Entries → Type 0
+Starting e none = Unit {0}
+Starting e (entry o u es) = ((e ≤ˢ fixed o) ≡ true) × Starting e es
 
 -- what starts at e or later, and so all above it
 starting-from : (k : ℕ) (e : Size) (es : Entries) (p : ℕ) → (e ≤ˢ fixed p) ≡ true → Ascends k p es → Starting e es
@@ -22,8 +30,13 @@ starting-from k (fixed n) (entry o u es) p h c =
     let le = leb-true n p h in
     (le-leb n o (omega arith), starting-from k (fixed n) es (suc o) (le-leb n (suc o) (omega arith)) (c .3))
 
-pub starting : (k : ℕ) (e : Size) (o : ℕ) (u : Usage) (es : Entries) (p : ℕ) → (e ≤ˢ fixed o) ≡ true → Ascends k p (entry o u es) → Starting e (entry o u es)
-starting k e o u es p h c = starting-from k e (entry o u es) o h (omega arith, c .1, c .2, c .3)
+starting : (k : ℕ) (e : Size) (es : Entries) (p : ℕ) → Starts e es → Ascends k p es → Starting e es
+starting k e none p h c = tt
+starting k e (entry o u es) p h c = starting-from k e (entry o u es) o h (omega arith, c .1, c .2, c .3)
+
+pub high-starting : (k : ℕ) {es : Entries} {s : List ℕ} {q na d : ℕ} {e : Size} {b : Overlap} (P : Parted es s q na d e b) → Ascends k 0 es → Starting e (P .high)
+high-starting k {e} P c =
+    starting k e (P .high) 0 (P .high-starts) (ascends-back k (P .mid) (P .high) 0 (ascends-back k (P .low) (P .mid <+> P .high) 0 (rw (P .is) at c)))
 
 -- what ends by d is not past 32 bits
 by-fits : (d : ℕ) (z : Size) → d ≤ max32 → (z ≤ˢ fixed d) ≡ true → past32 z ≡ false

@@ -10,9 +10,10 @@ use Rattle.records.specs.Records.{offsetIn}
 use Rattle.records.specs.Usages.{EntriesAt}
 use Rattle.records.proofs.Usages.{root-of, first-entry, entries-split}
 use Rattle.states.specs.States.{UpTo, FromOn, lastFrom}
-use Rattle.maps.specs.Runs.{FirstHas}
+use Rattle.search.specs.Runs.{FirstHas}
+use Rattle.search.proofs.Behind.{append-assoc, append-none, no-nodes, last-snoc, first-of}
 use Rattle.maps.specs.Joining.{Under, Over, Lowered, Lowered.whole, Lowered.short, Raised, Raised.whole, Raised.short, KeptBelow, GoesAt, GoesOn}
-use Rattle.maps.proofs.Entries.{append-assoc, append-none, no-nodes, last-snoc, first-of, under-of, upto-last}
+use Rattle.maps.proofs.Entries.{under-of, upto-last}
 
 -- Below
 

@@ -16,9 +16,10 @@ use Rattle.records.specs.Usages.{At, EntriesAt}
 use Rattle.records.proofs.Usages.{root-of, entries-move}
 use Rattle.states.specs.States.{Beyond, entries, element, joins, finish, UpTo, FromOn, Joins, Outside, Standing, Short, Next, Waiting}
 use Rattle.states.specs.declared.State.{State}
+use Rattle.search.proofs.Behind.{append-assoc}
 use Rattle.maps.specs.Runs.{Snoc, LastAt}
 use Rattle.maps.specs.Joining.{Under, Rows, Joint}
-use Rattle.maps.proofs.Entries.{append-assoc, last-within, under-of, under-front, ascends-without}
+use Rattle.maps.proofs.Entries.{last-within, under-of, under-front, ascends-without}
 use Rattle.maps.proofs.Downward.{downFrom, finish-last}
 
 -- in rule 6 what is outside of b is a map

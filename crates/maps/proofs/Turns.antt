@@ -8,7 +8,7 @@ use Rattle.definitions.specs.Place.{ends}
 use Rattle.records.specs.Records.{sizeIn, offsetIn}
 use Rattle.states.specs.States.{Waiting, Moves}
 use Rattle.states.specs.declared.State.{State}
-use Rattle.maps.specs.Numbers.{Marks}
+use Rattle.search.specs.Numbers.{Marks}
 use Rattle.maps.specs.Runs.{LastAt}
 use Rattle.maps.specs.Joining.{Rows, EntryTook, BTook, Straddled}
 use Rattle.maps.proofs.Deciding.{straddles-below, straddles-above, entry-takes, b-takes, b-merges}

@@ -14,7 +14,7 @@ use Rattle.report.specs.Emitted.{Emitted}
 use Rattle.states.specs.States.{act, UpTo, FromOn, lastFrom}
 use Rattle.states.specs.Ends.{finishedState}
 use Rattle.states.specs.declared.State.{State}
-use Rattle.maps.specs.Runs.{Run}
+use Rattle.search.specs.Runs.{Run}
 
 -- where the entries stand
 pub record Rows (s : List ℕ) (st : State) (total : ℕ) : Type 0 where

@@ -1,23 +1,21 @@
--- Entries that stand behind one another, and the last of them.
+-- Entries that stand behind one another, those before one of them, and the last of them.
 -- Assumes nothing.
 use Prim.Native.Nat.{ℕ, _+_, _<_, _≤_}
 use mathlib.Core.Path.{_≡_}
 use mathlib.Core.List.{List}
 use Rattle.definitions.specs.Usage.{Usage, Entries, none, entry, nodes, nodesIn, _<+>_}
-use Rattle.records.specs.Records.{countIn, offsetIn}
+use Rattle.records.specs.Records.{offsetIn}
 use Rattle.records.specs.Usages.{At, EntriesAt}
 
--- some entries stand from record q to record e
-pub record Run (s : List ℕ) (q e : ℕ) : Type 0 where
-  pub es : Entries
-  pub held : EntriesAt es s q
-  pub ends : q + nodesIn es ≡ e
-
--- the first of them has r nodes
-pub record FirstHas (s : List ℕ) (q e r : ℕ) : Type 0 where
-  pub is : r ≡ countIn s q
-  pub some : 1 ≤ r
-  pub fits : q + r ≤ e
+-- es is pre, up to q, and then left
+pub record Before (es : Entries) (s : List ℕ) (from e q : ℕ) : Type 0 where
+  pub pre : Entries
+  pub left : Entries
+  pub is : es ≡ pre <+> left
+  pub pre-held : EntriesAt pre s from
+  pub pre-count : from + nodesIn pre ≡ q
+  pub held : EntriesAt left s q
+  pub ends : q + nodesIn left ≡ e
 
 -- the last of es stands at r
 pub record Snoc (es : Entries) (s : List ℕ) (from e r : ℕ) : Type 0 where

@@ -10,18 +10,23 @@ ghost use Rattle.records.specs.Records.{commandIn, sizeIn, offsetIn};
 ghost use Rattle.states.specs.Fingers.{Finger};
 ghost use Rattle.states.specs.States.{Waiting, Moves};
 ghost use Rattle.states.specs.Starts.{Beside, Plain, Starts};
-ghost use Rattle.maps.specs.Numbers.{Marks, Past};
-ghost use Rattle.maps.specs.Runs.{Run, FirstHas, LastAt};
-ghost use Rattle.maps.specs.Search.{Scanned, Entered, Parts};
+ghost use Rattle.search.specs.Numbers.{Marks};
+ghost use Rattle.search.specs.Runs.{Run, Lies};
+ghost use Rattle.search.specs.Parts.{Parts};
+ghost use Rattle.maps.specs.Numbers.{Past};
+ghost use Rattle.maps.specs.Runs.{LastAt};
+ghost use Rattle.maps.specs.Search.{SearchedFrom};
 ghost use Rattle.maps.specs.Joining.{Rows, Turned, Closed, GoesAt, GoesOn, EntryTook, BTook, Straddled};
 use qptr::MaxSize;
 use records::exchange;
 use records::max_size;
 use records::move_down;
-use records::nodes;
 use records::offset;
 use records::put_nodes;
 use records::put_offset;
+use search::Overlap;
+use search::below;
+use search::entry_nodes;
 use states::State;
 use states::without_heading;
 
@@ -57,107 +62,37 @@ fn past32(e: u64) -> bool
     MAX32 < e
 }
 
-// The nodes of the entry at record q, of those that end at record e.
-fn entry_nodes(s: &[u8], q: usize, e: usize) -> usize
-    requires { ⌜ (q < e) × (e * 32 ≤ length (now s)) ⌝ }
-    requires { ⌜ Run (now s) q e ⌝ }
-    ensures { λ r. ⌜ FirstHas (now (s .entry)) q e r ⌝ }
-{
-    nodes(s, q)
-}
-
-// What the search finds: whether a sum that it makes is past 32 bits; where the entries that overlap begin and end; and the last
-// entry below them, or 0.
-pub struct Overlap {
-    pub past: bool,
-    pub first: usize,
-    pub upto: usize,
-    pub low: usize,
-}
-
-// What the search may pass over at once: all up to the entry at `from`, if that one starts before e and ends by d.
-fn passed(s: &[u8], na: usize, from: usize, d: u32, e: u64) -> Overlap
-    requires { ⌜ (na * 32 ≤ length (now s)) × (na ≤ 65536) ⌝ }
-    requires { ⌜ Run (now s) 1 na ⌝ }
+// Where the search may start: at the entry at `from`, if that one starts before e and ends by d, since then no entry before it overlaps;
+// and else at the first.
+fn start(s: &[u8], na: usize, from: usize, d: u32, e: u64) -> usize
+    requires { ⌜ Lies (now s) 1 na ⌝ }
     requires { ⌜ Finger (now s) 0 na from ⌝ }
-    ensures { λ r. ⌜ Scanned (now (s .entry)) na d e (r .upto) r ⌝ }
+    ensures { λ r. ⌜ SearchedFrom (now (s .entry)) na d e r ⌝ }
 {
-    let nothing = Overlap {
-        past: false,
-        first: 1,
-        upto: 1,
-        low: 0,
-    };
     if from == 0 {
-        return nothing;
+        return 1;
     }
     if na <= from {
-        return nothing;
+        return 1;
     }
     let o = offset(s, from);
     if o as u64 >= e {
-        return nothing;
+        return 1;
     }
     if (d as u64) < end_at(s, from, o) {
-        return nothing;
+        return 1;
     }
-    let next = from + entry_nodes(s, from, na);
-    Overlap {
-        past: false,
-        first: next,
-        upto: next,
-        low: from,
-    }
+    from
 }
 
-// The entries of the map at record 0, which end at record na, that overlap what starts at d and ends at e. The definition searches
-// downwards; upwards, an entry that ends by d starts the run anew.
+// The entries of the map at record 0, which end at record na, that overlap what starts at d and ends at e.
 fn overlapping(s: &[u8], na: usize, from: usize, d: u32, e: u64) -> Overlap
-    requires { ⌜ (na * 32 ≤ length (now s)) × (na ≤ 65536) ⌝ }
-    requires { ⌜ Run (now s) 1 na ⌝ }
+    requires { ⌜ Lies (now s) 1 na ⌝ }
     requires { ⌜ Finger (now s) 0 na from ⌝ }
-    ensures { λ r. ⌜ Parts (now (s .entry)) na d e r ⌝ }
+    ensures { λ r. ⌜ Parts (now (s .entry)) 1 na d e r ⌝ }
 {
-    let mut found = passed(s, na, from, d, e);
-    let mut q = found.upto;
-    while q < na {
-        let o = offset(s, q);
-        if e <= o as u64 {
-            return found;
-        }
-        let here = q;
-        q = q + entry_nodes(s, q, na);
-        found = with_entry(found, here, q, end_at(s, here, o), d);
-    }
-    found
-}
-
-// One entry more, from record `here` to record `next`, which ends at `z`.
-fn with_entry(found: Overlap, here: usize, next: usize, z: u64, d: u32) -> Overlap
-    ensures { λ r. ⌜ Entered found here next z d r ⌝ }
-{
-    if z <= d as u64 {
-        return Overlap {
-            past: false,
-            first: next,
-            upto: next,
-            low: here,
-        };
-    }
-    if past32(z) {
-        return Overlap {
-            past: true,
-            first: found.first,
-            upto: next,
-            low: found.low,
-        };
-    }
-    Overlap {
-        past: found.past,
-        first: found.first,
-        upto: next,
-        low: found.low,
-    }
+    let q = start(s, na, from, d, e);
+    below(s, q, na, d, e)
 }
 
 // Where the last of the entries from `from` to `to` begins.

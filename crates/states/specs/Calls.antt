@@ -4,6 +4,7 @@ use mathlib.Core.Path.{_≡_}
 use mathlib.Core.List.{List}
 use mathlib.Core.Option.{some}
 use lib.ListN.{length}
+use Rattle.definitions.specs.Limits.{nodeLimit}
 use Rattle.definitions.specs.Usage.{Usage, nodes}
 use Rattle.definitions.specs.Table.{Setting, tableOf}
 use Rattle.definitions.specs.Place.{Result, refused, done, place, mergeMem}
@@ -38,7 +39,7 @@ pub record Ready (table places s : List ℕ) (na nb : ℕ) : Type 0 where
   pub two : Two (length (setting .table)) s na nb a b
   pub left-some : 1 ≤ na
   pub right-some : 1 ≤ nb
-  pub small : na + nb ≤ 65536
+  pub small : na + nb ≤ nodeLimit
 
 -- the report, at this position, and those on the way down through n nodes, stay far from where positions wrap
 abbrev pub Near : ℕ → ℕ → Type 0

@@ -3,6 +3,7 @@ use Prim.Native.Nat.{ℕ, _+_, _≤_}
 use mathlib.Core.Path.{_≡_}
 use mathlib.Core.List.{List, []}
 use lib.ListN.{length}
+use Rattle.definitions.specs.Limits.{nodeLimit}
 use Rattle.definitions.specs.Usage.{Usage}
 use Rattle.definitions.specs.Table.{Setting}
 use Rattle.definitions.specs.Place.{after, placeByKind, place}
@@ -18,7 +19,7 @@ pub record Beside (s : List ℕ) (na nb : ℕ) : Type 0 where
   pub two : Two k s na nb a b
   pub left-some : 1 ≤ na
   pub right-some : 1 ≤ nb
-  pub small : na + nb ≤ 65536
+  pub small : na + nb ≤ nodeLimit
 
 -- b, whose command is c, is not Unused, and no map at 0: rules 1 and 2 do not take it
 pub record Plain (c d : ℕ) : Type 0 where

@@ -3,7 +3,7 @@ use Prim.Native.Nat.{ℕ, zero, suc, _+_, _-_, _*_, _%_, _^_, _<_, _≤_}
 use mathlib.Core.Path.{_≡_}
 use mathlib.Core.List.{List, [], _∷_, _++_}
 use lib.ListN.{length}
-use Rattle.definitions.specs.Limits.{max32}
+use Rattle.definitions.specs.Limits.{max32, nodeLimit}
 use Rattle.definitions.specs.Usage.{Size, In32, Usage, array, map, Entries, none, entry, nodes, nodesIn, _<+>_}
 use Rattle.definitions.specs.Stream.{bytes}
 use Rattle.definitions.specs.Table.{Setting}
@@ -203,7 +203,7 @@ pub record Waiting (s : List ℕ) (st : State) (n total : ℕ) : Type 0 where
   pub within : st .x + n ≤ st .q
   pub high : st .q ≤ total
   pub len : length s ≡ total * 32
-  pub small : total ≤ 65536
+  pub small : total ≤ nodeLimit
 
 -- What it leaves: fewer nodes to come, and the goal still ahead.
 pub record Moves (s rep : List ℕ) (st : State) (n pairings at total : ℕ) (s′ rep′ : List ℕ) (st′ : State) : Type 0 where

@@ -1,7 +1,7 @@
 -- `maps::begin_join` meets its contract. Two returns refuse; the third hands over to `next_join`, and with its answer the goal is reached.
 -- Assumes nothing.
 use borrow.Author.Needs.{needs}
-use Rattle.maps.proofs.Beginning.{run-of, refused-end, refused-entry, begun-waits, begun-starts}
+use Rattle.maps.proofs.Beginning.{entries-lie, refused-end, refused-entry, begun-waits, begun-starts}
 use Rattle.maps.proofs.begin_join.Statement.{statement}
 use Rattle.maps.proofs.begin_join.Tie as tie
 
@@ -21,7 +21,7 @@ returns : tie.Need-returns
 returns c = search (refused-end, needs)
 
 overlapping-requires : tie.Need-overlapping-requires
-overlapping-requires c κs = search (run-of, needs)
+overlapping-requires c κs = search (entries-lie, needs)
 
 refused-requires-2 : tie.Need-refused-requires-2
 refused-requires-2 c κs = search needs

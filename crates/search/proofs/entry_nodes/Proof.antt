@@ -1,9 +1,9 @@
--- `maps::entry_nodes` meets its contract. Since q is before e, an entry stands there, and it has a node and ends by e.
+-- `search::entry_nodes` meets its contract: the first entry has a node, and ends where the others begin.
 -- Assumes nothing.
 use borrow.Author.Needs.{needs}
-use Rattle.maps.proofs.Entries.{first-has}
-use Rattle.maps.proofs.entry_nodes.Statement.{statement}
-use Rattle.maps.proofs.entry_nodes.Tie as tie
+use Rattle.search.proofs.Behind.{first-has}
+use Rattle.search.proofs.entry_nodes.Statement.{statement}
+use Rattle.search.proofs.entry_nodes.Tie as tie
 
 nodes-requires : tie.Need-nodes-requires
 nodes-requires c κs = search needs

@@ -1,0 +1,14 @@
+pub mod Behind
+pub mod Marking
+pub mod Rowing
+pub mod Fills
+pub mod Cutting
+pub mod Pasts
+pub mod Halving
+pub mod Parting
+pub mod Elem
+pub mod Fronts
+pub mod Tops
+pub mod CallEndsBy
+pub mod CallTop
+pub mod Lending
