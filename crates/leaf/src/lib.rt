@@ -7,6 +7,7 @@ ghost use Rattle.report.specs.Emitted.{Emitted};
 ghost use Rattle.states.specs.Calls.{Ready};
 ghost use Rattle.states.specs.States.{Begins};
 ghost use Rattle.states.specs.Starts.{Plain};
+ghost use Rattle.support.specs.Known.{Unchanged};
 ghost use Rattle.leaf.specs.Leaves.{Typed, TypeAt, Stricter, reportOf, isNo, decided, Keeps};
 use records::argument;
 use records::command;
@@ -79,10 +80,11 @@ fn decide(asked: Asked, ty: u32, otherwise: Kept) -> Kept
 }
 
 // The type kept of a, with b at d. b's type is asked only if a's does not support b.
-fn kept_type(table: &[u8], places: &[u32], s: &[u8], na: usize, d: u32, nb: usize) -> Kept
+fn kept_type(table: &[u8], places: &[u32], s: &mut [u8], na: usize, d: u32, nb: usize) -> Kept
     requires { ⌜ Ready (now table) (now places) (now s) na nb ⌝ }
     requires { ⌜ Typed (commandIn (now s) 0) ⌝ }
     ensures { λ r. ⌜ Keeps (now (table .entry)) (now (places .entry)) (now (s .entry)) na d nb r ⌝ }
+    ensures { λ r. ⌜ Unchanged (now (s .entry)) (now (s .exit)) ⌝ }
 {
     let ty = argument(s, 0);
     let other = Kept {

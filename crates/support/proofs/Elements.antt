@@ -65,10 +65,16 @@ module _ {s : List ℕ} {q : ℕ} (k : commandIn s q ≡ 4) (w : Stands s q) whe
       (λ z n e a within few. record { usage = e; offset = a .1 .0; at = rw p at (a .1 .1); within = omega arith; few = omega arith })
       (w .usage) (w .at) (w .within) (w .few)
 
-  pub element-smaller : countIn s (q + 1) < countIn s q
+  element-counts : suc (countIn s (q + 1)) ≡ countIn s q
   unfolding At
-  element-smaller =
+  element-counts =
       let p : suc q ≡ q + 1 = omega arith in
-      on-array (λ v. countIn s q ≡ nodes v → countIn s (q + 1) < countIn s q) s q (w .offset) k
+      on-array (λ v. countIn s q ≡ nodes v → suc (countIn s (q + 1)) ≡ countIn s q) s q (w .offset) k
       (λ z n e a x. omega (arith, count-is e s (q + 1) (a .1 .0) (rw p at (a .1 .1))))
       (w .usage) (w .at) (count-is (w .usage) s q (w .offset) (w .at))
+
+  pub element-smaller : countIn s (q + 1) < countIn s q
+  element-smaller = omega (arith, element-counts)
+
+  pub element-within : q + 1 + countIn s (q + 1) ≤ q + countIn s q
+  element-within = omega (arith, element-counts)

@@ -7,5 +7,8 @@ pub mod OneEntry
 pub mod Elements
 pub mod Itself
 pub mod Rules
+pub mod Staying
+pub mod Remembering
+pub mod Marking
 pub mod Asking
 pub mod Sanity

@@ -2,14 +2,14 @@
 -- Assumes nothing.
 use Prim.Native.Nat.{ℕ, _<_}
 use mathlib.Core.Path.{_≡_, refl, ap, sym, _∙_}
-use mathlib.Core.Bool.{Bool, true, false, _&&_}
+use mathlib.Core.Bool.{Bool, true, false, _&&_, _||_}
 use mathlib.Core.List.{List}
 use lib.Dec.{eqb}
 use lib.ListN.{length}
 use Rattle.definitions.specs.If.{if_then_else_}
 use Rattle.definitions.specs.Usage.{Size, Usage, size}
 use Rattle.definitions.specs.Table.{Setting, TypeLayout as Layout, concrete, handle, failed, layoutOf, isConcrete}
-use Rattle.definitions.specs.Support.{Asking, outside, supportRules, supports}
+use Rattle.definitions.specs.Support.{Asking, outside, componentSupports, itself, supportRules, supports}
 use Rattle.records.specs.Records.{commandIn, sizeIn}
 use Rattle.records.specs.Usages.{At}
 use Rattle.layout.specs.Values.{partsOf, layoutIn}
@@ -20,9 +20,17 @@ use Rattle.layout.specs.declared.TypeLayout.the-variants.{Concrete}
 use Rattle.layout.proofs.Clash.{clash}
 use Rattle.support.specs.Known.{Known}
 use Rattle.support.specs.Answers.{WholeLeaf, Supports, ComponentSupports, ItselfSupports}
+use Rattle.support.specs.Memory.{LeftOpen, FirstSays}
+use Rattle.support.specs.declared.First.{First}
+use Rattle.support.specs.declared.First.the-variants.{No, Yes, Open}
 use Rattle.support.proofs.Roots.{size-is}
 use Rattle.support.proofs.Leaves.{unused-is, used-is}
-use Rattle.support.proofs.Types.{one-step, layout-is}
+use Rattle.support.proofs.Types.{one-step, layout-is, components-of}
+
+either-or : (c b : Bool) → (if c then true else b) ≡ (c || b)
+unfolding if_then_else_
+either-or true b = refl
+either-or false b = refl
 
 -- what is not concrete supports nothing
 
@@ -65,16 +73,45 @@ module _ {table places : List ℕ} {ty at : ℕ} {s : List ℕ} {q : ℕ} {r : T
           unfolding if_then_else_
           large-refused f = by-rules λ st k b e u o a. rw (used-is u s q o a x z, ← leaf .is u o a, t, large-is u o a, f)
 
-          module _ {h : Bool} (f : g ≡ false) (parts : ComponentSupports table places ty at s q h) where
-            pub part-supported : h ≡ true → Supports table places ty at s q true
-            unfolding if_then_else_
-            part-supported p =
-                by-rules λ st k b e u o a.
-                rw (used-is u s q o a x z, ← leaf .is u o a, t, large-is u o a, f, ← parts .is st k b n d (partsOf table cs) e u o a, p)
+          pub left-open : g ≡ false → LeftOpen table places ty at s q
+          unfolding if_then_else_
+          left-open f = record {
+            used = λ e. z (x ∙ e);
+            parts = cs;
+            components = components-of l y;
+            is = λ st k b u o a.
+                rw (one-step st k ty at u, layout-is l y st k b, used-is u s q o a x z, ← leaf .is u o a, t, large-is u o a, f)
+                (either-or (componentSupports st (supports st) (partsOf table cs) at u) _);
+          }
 
-            pub itself-asked : {i : Bool} → h ≡ false → ItselfSupports table places ty at s q i → Supports table places ty at s q i
-            unfolding if_then_else_
-            itself-asked p self =
-                by-rules λ st k b e u o a.
-                rw (used-is u s q o a x z, ← leaf .is u o a, t, large-is u o a, f, ← parts .is st k b n d (partsOf table cs) e u o a, p)
-                (self .is st k b n d (partsOf table cs) e u o a)
+-- what the first tests have said
+
+module _ {table places : List ℕ} {ty at : ℕ} {s : List ℕ} {q : ℕ} {r : First} (F : FirstSays table places ty at s q r) where
+  pub first-no : r ≡ No → Supports table places ty at s q false
+  first-no e = rw e at (F .is)
+
+  pub first-yes : r ≡ Yes → Supports table places ty at s q true
+  first-yes e = rw e at (F .is)
+
+  pub first-open : r ≡ Open → LeftOpen table places ty at s q
+  first-open e = rw e at (F .is)
+
+-- and then the components are asked, and the usage itself
+
+module _ {table places : List ℕ} {ty at : ℕ} {s : List ℕ} {q : ℕ} {h : Bool}
+    (w : LeftOpen table places ty at s q) (parts : ComponentSupports table places ty at s q h) where
+  parts-say : (st : Setting) → Known table places st → ty < length (st .table) → (u : Usage) (o : ℕ) → At u s q o →
+      supports st ty at u ≡ (h || itself st (supports st) ty (partsOf table (w .parts)) at u)
+  parts-say st k b u o a =
+      let p = w .components in
+      rw (w .is st k b u o a, ← parts .is st k b (p .size) (p .stride) (partsOf table (w .parts)) (layout-is (p .is) refl st k b) u o a)
+
+  pub part-supported : h ≡ true → Supports table places ty at s q true
+  part-supported e = record { is = λ st k b u o a. rw (parts-say st k b u o a, e) }
+
+  pub itself-asked : {i : Bool} → h ≡ false → ItselfSupports table places ty at s q i → Supports table places ty at s q i
+  itself-asked e self = record {
+    is = λ st k b u o a.
+        let p = w .components in
+        rw (parts-say st k b u o a, e) (self .is st k b (p .size) (p .stride) (partsOf table (w .parts)) (layout-is (p .is) refl st k b) u o a);
+  }

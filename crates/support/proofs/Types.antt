@@ -3,10 +3,11 @@
 use Prim.Native.Nat.{ℕ, _<_}
 use native.Mathlib.Omega.{arith}
 use mathlib.Core.Path.{_≡_, refl, ap, sym, _∙_}
+use mathlib.Core.Bool.{true}
 use mathlib.Core.List.{List}
 use lib.ListN.{length}
 use Rattle.definitions.specs.Usage.{Usage}
-use Rattle.definitions.specs.Table.{Setting, layoutOf}
+use Rattle.definitions.specs.Table.{Setting, layoutOf, concrete, isConcrete}
 use Rattle.definitions.specs.Support.{supportRules, supports}
 use Rattle.definitions.proofs.Earlier.{accepted}
 use Rattle.definitions.proofs.Support.{supports-is}
@@ -14,8 +15,9 @@ use Rattle.layout.specs.Values.{partsOf, layoutIn}
 use Rattle.layout.specs.Places.{InTable, LayoutIs}
 use Rattle.layout.specs.declared.Components.{Components}
 use Rattle.layout.specs.declared.TypeLayout.{TypeLayout}
-use Rattle.layout.specs.declared.TypeLayout.the-variants.{Concrete}
-use Rattle.support.specs.Known.{Known, TypeKnown, Askable, ConcreteAskable, ComponentsOf}
+use Rattle.layout.specs.declared.TypeLayout.the-variants.{Concrete, Handle, Failed}
+use Rattle.layout.proofs.Clash.{clash}
+use Rattle.support.specs.Known.{Known, TypeKnown, ConcreteType, Askable, ConcreteAskable, ComponentsOf}
 
 module _ {table places : List ℕ} where
   pub type-in : {ty : ℕ} → TypeKnown table places ty → InTable table places ty
@@ -31,6 +33,22 @@ module _ {table places : List ℕ} where
 
   pub components-of : {ty n d : ℕ} {r : TypeLayout} {cs : Components} → LayoutIs table places ty r → r ≡ Concrete n d cs → ComponentsOf table places ty cs
   components-of {n = n} {d = d} l y = record { size = n; stride = d; is = rw y at l }
+
+  -- a concrete type is no handle, and has not failed
+
+  concrete-clash : {ty : ℕ} {r v : TypeLayout} → ConcreteType table places ty → LayoutIs table places ty r → r ≡ v → isConcrete (layoutIn table v) ≡ true
+  concrete-clash {ty} {v = v} w l y =
+      let e : concrete (w .size) (w .stride) (w .parts) ≡ layoutIn table v = sym (w .layout) ∙ layout-is l y (w .type .setting) (w .type .known) (w .type .below) in
+      sym (ap isConcrete e)
+
+  pub not-handle : {ty : ℕ} {r : TypeLayout} → ConcreteType table places ty → LayoutIs table places ty r → r ≡ Handle → ⊥
+  not-handle w l y = clash (concrete-clash w l y) refl
+
+  pub not-failed : {ty : ℕ} {r : TypeLayout} → ConcreteType table places ty → LayoutIs table places ty r → r ≡ Failed → ⊥
+  not-failed w l y = clash (concrete-clash w l y) refl
+
+  pub concrete-type : {ty : ℕ} {s : List ℕ} {q : ℕ} → ConcreteAskable table places ty s q → ConcreteType table places ty
+  concrete-type w = record { type = w .asks .type; size = w .size; stride = w .stride; parts = w .parts; layout = w .layout }
 
   module _ {s : List ℕ} {q ty : ℕ} where
     pub asks-earlier : {c : ℕ} → Askable table places ty s q → c < ty → Askable table places c s q

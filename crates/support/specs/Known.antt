@@ -7,6 +7,7 @@ use mathlib.Core.Option.{some}
 use lib.ListN.{length}
 use Rattle.definitions.specs.Usage.{Usage, nodes}
 use Rattle.definitions.specs.Table.{Setting, Components as Parts, concrete, layoutOf, tableOf}
+use Rattle.records.specs.Records.{Same}
 use Rattle.records.specs.Usages.{At}
 use Rattle.layout.specs.Places.{Places, LayoutIs}
 use Rattle.layout.specs.declared.Components.{Components}
@@ -36,7 +37,15 @@ pub record Askable (table places : List ℕ) (ty : ℕ) (s : List ℕ) (q : ℕ)
   pub type : TypeKnown table places ty
   pub usage : Stands s q
 
--- and its layout is concrete
+-- its layout is concrete
+pub record ConcreteType (table places : List ℕ) (ty : ℕ) : Type 0 where
+  pub type : TypeKnown table places ty
+  pub size : ℕ
+  pub stride : ℕ
+  pub parts : Parts
+  pub layout : layoutOf (type .setting .table) ty ≡ concrete size stride parts
+
+-- and so is that of a type that may be asked
 pub record ConcreteAskable (table places : List ℕ) (ty : ℕ) (s : List ℕ) (q : ℕ) : Type 0 where
   pub asks : Askable table places ty s q
   pub size : ℕ
@@ -49,3 +58,7 @@ pub record ComponentsOf (table places : List ℕ) (ty : ℕ) (cs : Components) :
   pub size : ℕ
   pub stride : ℕ
   pub is : LayoutIs table places ty (Concrete size stride cs)
+
+-- each record says what it said, so that each usage stands where it stood
+pub record Unchanged (s s′ : List ℕ) : Type 0 where
+  pub same : (i : ℕ) → Same s i s′ i

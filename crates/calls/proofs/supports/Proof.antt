@@ -117,14 +117,14 @@ same-length c = search needs
 
 returns-8 : tie.Need-returns-8
 returns-8 c =
-    let a = c .before .before .before .before .before .before .before .before .before .before .before .before .before .before .before .before .before .before .before .before .before .before .before .before .before .before .before .before .args in
-    let t = begun (c .before .before .before .before .before .before .before .before .before .before .before .before .before .before .before .before .before .before .before) in
-    let m = memory (c .before .before .before .before .before .before .before .before .before .before .before .before .before .before .before) in
-    let asked = c .before .before .before .before .before .before .before .before .before .before .is-concrete in
-    let below = c .before .before .before .before .before .before .before .before .before .before .before .before .before .if3 .left in
+    let a = c .before .before .before .before .before .before .before .before .before .before .before .before .before .before .before .before .before .before .before .before .before .before .before .before .before .before .before .before .before .before .args in
+    let t = begun (c .before .before .before .before .before .before .before .before .before .before .before .before .before .before .before .before .before .before .before .before .before) in
+    let m = memory (c .before .before .before .before .before .before .before .before .before .before .before .before .before .before .before .before .before) in
+    let asked = c .before .before .before .before .before .before .before .before .before .before .before .before .is-concrete in
+    let below = c .before .before .before .before .before .before .before .before .before .before .before .before .before .before .before .if3 .left in
     rw (
-      supports-said t (a .ty) (a .offset) m below (c .before .before .before .before .before .before .before .before .before .before .before .before .if4 .left) (asked .ensures) (not-false (asked .result) (c .before .before .before .before .before .before .before .before .before .if5 .left)) (c .before .before .before .before .before .before .before .before .if6 .left),
-      ← supported t (a .ty) (a .offset) m below (c .before .before .before .before .before .before .load .ensures) (c .before .supports-usage-at-offset .ensures),
+      supports-said t (a .ty) (a .offset) m below (c .before .before .before .before .before .before .before .before .before .before .before .before .before .before .if4 .left) (asked .ensures) (not-false (asked .result) (c .before .before .before .before .before .before .before .before .before .before .before .if5 .left)) (c .before .before .before .before .before .before .before .before .before .before .if6 .left),
+      ← supported t (a .ty) (a .offset) m below (c .before .before .before .before .before .before .before .before .load .ensures) (c .before .before .before .supports-usage-at-offset .ensures .0),
     )
     (c .said .ensures)
 

@@ -34,14 +34,9 @@ same-length-2 c = search needs
 
 returns : tie.Need-returns
 returns c =
-    let reported : _ = c .before .before .before in
-    let put : _ = reported .before .before .before .before in
-    let strict : _ = put .before .before in
-    let second : _ = strict .before in
-    let first : _ = second .before .before in
-    let kept : _ = first .before .before in
-    let start : _ = kept .before .before .before .before .before .before in
-    leaf-begins _ _ _ _ _ _ _ _ _ _ _ _ _ _ _ _ (start .pre .0) (start .pre .1 .0) (start .pre .1 .1) (kept .kept-type .ensures) (first .command .ensures) (second .command2 .ensures) (strict .stricter .ensures) (put .put-type .ensures) (reported .report-conflict .ensures) (c .finished .ensures)
+    let start = c .before .before .before .before .before .before .before .before .before .before .before .before .before .before .before .before .before .before .before .before .before .before in
+    let kept = c .before .before .before .before .before .before .before .before .before .before .before .before .before .before .before .before .kept-type .ensures in
+    leaf-begins _ _ _ _ _ _ _ _ _ _ _ _ _ _ _ _ _ (start .pre .0) (start .pre .1 .0) (start .pre .1 .1) (kept .0) (kept .1) (c .before .before .before .before .before .before .before .before .before .before .before .before .command .ensures) (c .before .before .before .before .before .before .before .before .before .before .command2 .ensures) (c .before .before .before .before .before .before .before .before .before .stricter .ensures) (c .before .before .before .before .before .before .before .put-type .ensures) (c .before .before .before .report-conflict .ensures) (c .finished .ensures)
 
 pub begin-leaf-spec : {M : Type 1} → statement M
 begin-leaf-spec =

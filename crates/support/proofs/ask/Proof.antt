@@ -2,6 +2,7 @@
 -- Assumes nothing.
 use borrow.Author.Needs.{needs}
 use Rattle.support.proofs.Asking.{handle-answers, failed-answers, yes-answers, no-answers}
+use Rattle.support.proofs.Staying.{unchanged-none}
 use Rattle.support.proofs.ask.Statement.{statement}
 use Rattle.support.proofs.ask.Tie as tie
 
@@ -20,17 +21,23 @@ enum-told-3 c = search needs
 supports-usage-at-offset-requires : tie.Need-supports-usage-at-offset-requires
 supports-usage-at-offset-requires c κs = search needs
 
+same-length : tie.Need-same-length
+same-length c = search needs
+
 returns : tie.Need-returns
-returns c = search (yes-answers, needs)
+returns c = (search (yes-answers, needs), search needs)
 
 returns-2 : tie.Need-returns-2
-returns-2 c = search (handle-answers, needs)
+returns-2 c = (search (handle-answers, needs), unchanged-none)
 
 returns-3 : tie.Need-returns-3
-returns-3 c = search (failed-answers, needs)
+returns-3 c = (search (failed-answers, needs), unchanged-none)
+
+same-length-2 : tie.Need-same-length-2
+same-length-2 c = search needs
 
 returns-4 : tie.Need-returns-4
-returns-4 c = search (no-answers, needs)
+returns-4 c = (search (no-answers, needs), search needs)
 
 pub ask-spec : {M : Type 1} → statement M
 ask-spec =
@@ -41,7 +48,9 @@ ask-spec =
     enum-told-2
     enum-told-3
     supports-usage-at-offset-requires
+    same-length
     returns
     returns-2
     returns-3
+    same-length-2
     returns-4)
