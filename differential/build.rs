@@ -63,7 +63,6 @@ fn main() {
         let sliced: String = markers.iter().map(|marker| slice(&text, marker, file)).collect();
         fs::write(out.join(file), sliced).expect("OUT_DIR can be written");
     }
-    link_library();
 }
 
 /// Where the published `src/qptr` lies: under `$SPIRT_SRC`, or beside the repository.
@@ -108,20 +107,4 @@ fn slice(text: &str, marker: &str, file: &str) -> String {
     let mut item = lines[start - above..=end].join("\n");
     item.push_str("\n\n");
     item
-}
-
-/// Links the static library `exports` if it is wanted.
-fn link_library() {
-    println!("cargo::rerun-if-env-changed=PAPERSLOE_LIB_DIR");
-    if env::var_os("CARGO_FEATURE_LIBRARY").is_none() {
-        return;
-    }
-    let Ok(folder) = env::var("PAPERSLOE_LIB_DIR") else {
-        fail(
-            "the feature library is on: set PAPERSLOE_LIB_DIR to the folder of the static library `exports`",
-        )
-    };
-    println!("cargo::rerun-if-changed={folder}/libexports.a");
-    println!("cargo::rustc-link-search=native={folder}");
-    println!("cargo::rustc-link-lib=static=exports");
 }
