@@ -28,4 +28,12 @@ cargo run --release --quiet --manifest-path differential/Cargo.toml -- ci
 # The definitions themselves, computed on recorded and generated calls.
 bash differential/definitions.sh
 
+# The library as others link it: from C, from Rust, and beside the original.
+rt staticlib exports
+bash bindings/c/example.sh
+cargo test --quiet --manifest-path bindings/rust/Cargo.toml
+cargo run --release --quiet --manifest-path differential/Cargo.toml --features library -- \
+  compare --sides reference,library --count 20000
+
+# From nothing: every proof, every must-fail edit, every program.
 rt ci
