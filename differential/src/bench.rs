@@ -1,13 +1,13 @@
 //! How long the port takes. Reading is timed through `sound`, which accepts, loads and looks at each node once; the layout test
 //! beside the reference, on the same questions in the same run.
 
-use crate::library::time;
+use crate::library::{Library, time};
 use crate::notation;
 use crate::reading::calls::{MOST_NODES, WORK_AREA};
-use crate::reading::streams::{ARRAY, MAP, UNUSED, write_memory};
+use crate::reading::streams::{ARRAY, MAP, UNUSED, write_list, write_memory};
 use crate::reading::tables::write_table;
-use crate::reference::timing::time_supports;
-use crate::side::{Buffer, Call, CallKind};
+use crate::reference::timing::{time_fold, time_supports};
+use crate::side::{Buffer, Call, CallKind, Side};
 use crate::usage::{Entry, Kind, Size, Usage};
 use std::time::Duration;
 
@@ -146,10 +146,6 @@ type Lists = Vec<(&'static str, Vec<Usage>)>;
 
 /// Pairs for the call merge.
 pub fn pairs() -> Lists {
-    let at = |offsets: &mut dyn Iterator<Item = u32>, size: &str| {
-        let leaves: Vec<String> = offsets.map(|o| format!("{o}:D4,0")).collect();
-        notation::usage(&format!("O{size}[{}]", leaves.join(" ")))
-    };
     let strict = |size: u32| notation::usage(&format!("O{size}[0:S4,1 4:S4,1 8:S4,1]"));
     let maps = |shift: u32| {
         let inner = |i: u32| {
@@ -161,19 +157,19 @@ pub fn pairs() -> Lists {
     };
     vec![
         ("two equal leaves", vec![leaf(), leaf()]),
-        (
-            "two maps of 3, disjoint",
-            vec![at(&mut (0..3).map(|i| i * 8), "24"), at(&mut (0..3).map(|i| i * 8 + 4), "24")],
-        ),
+        ("two maps of 3, disjoint", vec![at_offsets(every(8, 0, 3)), at_offsets(every(8, 4, 3))]),
         ("two maps of 3, same offsets", vec![flat(4), flat(4)]),
-        ("two maps of 3, all conflicting", vec![strict(12), at(&mut (0..3).map(|i| i * 4), "12")]),
+        (
+            "two maps of 3, all conflicting",
+            vec![strict(12), notation::usage("O12[0:D4,0 4:D4,0 8:D4,0]")],
+        ),
         (
             "two flat maps of 31, interleaved",
-            vec![at(&mut (0..31).map(|i| i * 8), "*"), at(&mut (0..31).map(|i| i * 8 + 4), "*")],
+            vec![at_offsets(every(8, 0, 31)), at_offsets(every(8, 4, 31))],
         ),
         (
             "two flat maps of 250, interleaved",
-            vec![at(&mut (0..250).map(|i| i * 8), "*"), at(&mut (0..250).map(|i| i * 8 + 4), "*")],
+            vec![at_offsets(every(8, 0, 250)), at_offsets(every(8, 4, 250))],
         ),
         ("two flat maps of 250, same offsets", vec![flat(251), flat(251)]),
         ("nested arrays, depth 100", vec![nested_arrays(101), nested_arrays(101)]),
@@ -200,40 +196,64 @@ pub fn lists() -> Lists {
     ]
 }
 
-/// A call from bytes to bytes beside the reference, which decodes the same streams, merges, encodes its answer and drops all; and
-/// the reference's `merge_mem` alone.
-pub fn merging(kind: CallKind, lists: &Lists) -> String {
-    use crate::reading::streams::write_list;
-    use crate::reference::timing::time_fold;
+/// A flat map of dynamic size, with a leaf at each of these offsets.
+pub fn at_offsets(offsets: impl Iterator<Item = u32>) -> Usage {
+    let entries = offsets.map(|offset| Entry { offset, node: leaf() }).collect();
+    Usage { size: Size::Dynamic, kind: Kind::Map(entries) }
+}
+
+/// So many offsets, each so far from the one before.
+fn every(step: u32, first: u32, count: u32) -> impl Iterator<Item = u32> {
+    (0..count).map(move |i| i * step + first)
+}
+
+/// A merge or a fold that was timed: its nodes, its pairings, and microseconds of our call, of the reference from bytes to bytes, and
+/// of its `merge_mem` alone.
+pub struct Compared {
+    pub nodes: usize,
+    pub pairings: u64,
+    pub times: [f64; 3],
+}
+
+/// A call from bytes to bytes beside the reference, which decodes the same streams, merges, encodes its answer and drops all.
+pub fn compared(kind: CallKind, usages: &[Usage]) -> Compared {
     let table = notation::table("scalar 4; scalar 4");
+    let list = write_list(usages);
+    let (first, second) = match kind {
+        CallKind::Merge => (write_memory(&usages[0]), write_memory(&usages[1])),
+        _ => (list.clone(), Vec::new()),
+    };
+    let output = Buffer { length: list.len(), fill: 0 };
+    let report = Buffer { length: 1024, fill: 0 };
+    let call = Call { kind, table: write_table(&table), second, output, report, ..sound(first) };
+    let answer = Library.answer(&call);
+    assert_eq!(answer.number, 0, "the call is answered");
+    let nodes: usize = usages.iter().map(Usage::nodes).sum();
+    let times = (20_000 / (nodes as u32 + answer.pairings as u32)).max(1);
+    let micros = |run: &dyn Fn() -> Duration| median(run).as_secs_f64() * 1e6 / f64::from(times);
+    Compared {
+        nodes,
+        pairings: answer.pairings,
+        times: [
+            micros(&|| time(&call, times)),
+            micros(&|| time_fold(&table, &list, times)[0]),
+            micros(&|| time_fold(&table, &list, times)[1]),
+        ],
+    }
+}
+
+/// The comparison of each list, as a table in Markdown.
+pub fn merging(kind: CallKind, lists: &Lists) -> String {
     let mut lines = vec![
-        "| merged | nodes | pairings | ours | reference | ratio | `merge_mem` alone |".to_owned(),
+        "| merged | nodes | pairings | ours, µs | reference, µs | ratio | `merge_mem` alone, µs |"
+            .to_owned(),
         "|---|---|---|---|---|---|---|".to_owned(),
     ];
-    for (what, nodes) in lists {
-        let list = write_list(nodes);
-        let (first, second) = match kind {
-            CallKind::Merge => (write_memory(&nodes[0]), write_memory(&nodes[1])),
-            _ => (list.clone(), Vec::new()),
-        };
-        let output = Buffer { length: list.len(), fill: 0 };
-        let report = Buffer { length: 1024, fill: 0 };
-        let call =
-            Call { kind, table: write_table(&table), second, output, report, ..sound(first) };
-        let answer = crate::side::Side::answer(&crate::library::Library, &call);
-        assert_eq!(answer.number, 0, "{what} is answered");
-        let count: usize = nodes.iter().map(Usage::nodes).sum();
-        let times = (20_000 / (count as u32 + answer.pairings as u32)).max(1);
-        let ours = median(|| time(&call, times));
-        let whole = median(|| time_fold(&table, &list, times)[0]);
-        let alone = median(|| time_fold(&table, &list, times)[1]);
-        let ratio = ours.as_secs_f64() / whole.as_secs_f64();
+    for (what, usages) in lists {
+        let Compared { nodes, pairings, times: [ours, whole, alone] } = compared(kind, usages);
+        let ratio = ours / whole;
         lines.push(format!(
-            "| {what} | {count} | {} | {:.2?} | {:.2?} | {ratio:.2} | {:.2?} |",
-            answer.pairings,
-            ours / times,
-            whole / times,
-            alone / times
+            "| {what} | {nodes} | {pairings} | {ours:.2} | {whole:.2} | {ratio:.2} | {alone:.2} |"
         ));
     }
     lines.join("\n")

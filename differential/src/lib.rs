@@ -7,6 +7,8 @@ pub mod generate;
 #[cfg(feature = "library")]
 pub mod library;
 pub mod notation;
+#[cfg(feature = "library")]
+pub mod plot;
 pub mod power;
 pub mod reading;
 pub mod record;

@@ -10,7 +10,7 @@ use differential::rows::{Row, bench, directed, limits, printed_example};
 use differential::side::{CallKind, Side};
 use differential::theorems::{Theorems, small_calls};
 #[cfg(feature = "library")]
-use differential::{bench as port, library::Library, stack};
+use differential::{bench as port, library::Library, plot, stack};
 use std::path::Path;
 use std::process::ExitCode;
 use std::time::Instant;
@@ -32,6 +32,7 @@ theorems DIR                     write recorded and generated calls as theorems 
   --seed 3
 power                            each deliberate fault must be noticed
 bench                            how long the port takes, beside the reference (needs the library)
+plot PATH                        how cost grows with nodes, as a picture (needs the library)
 stack                            how much stack the deepest calls need (needs the library)
 ci [PATH]                        all of it, bounded (PATH: the recorded answers)";
 
@@ -75,9 +76,11 @@ fn run() -> Ended {
         #[cfg(feature = "library")]
         ["stack"] => stack_table(),
         #[cfg(feature = "library")]
+        ["plot", path] => plot_growth(path),
+        #[cfg(feature = "library")]
         ["stack-of", name, kib] => stack::run(name, kib),
         #[cfg(not(feature = "library"))]
-        ["bench" | "stack"] => Err(NOT_LINKED.into()),
+        ["bench" | "stack" | "plot", ..] => Err(NOT_LINKED.into()),
         ["ci"] => ci(RECORDED),
         ["ci", path] => ci(path),
         _ => Err(USAGE.into()),
@@ -101,6 +104,14 @@ fn bench_port() -> Ended {
 fn stack_table() -> Ended {
     println!("{}", stack::table()?);
     Ok("stack: the smallest that suffices, in steps of 8 KiB".into())
+}
+
+#[cfg(feature = "library")]
+fn plot_growth(path: &str) -> Ended {
+    let (picture, table) = plot::growth();
+    fs::write(path, picture).map_err(|error| format!("{path}: {error}"))?;
+    println!("{table}");
+    Ok(format!("plot: {path}"))
 }
 
 /// The options of a comparison.
