@@ -1,16 +1,16 @@
--- Records moved down, turned round and exchanged.
+-- Records moved down and exchanged.
 -- Assumes nothing.
 use Prim.Native.Nat.{ℕ, _+_, _-_, _*_, _<_, _≤_}
 use mathlib.Core.Path.{_≡_, refl, sym, _∙_}
 use mathlib.Core.List.{List}
 use native.Mathlib.Decide.{decLt, ℕ-discrete}
 use native.Mathlib.Omega.{arith}
-use lib.ListN.{length, getD, set}
-use lib.Seq.{getD-set-same, getD-set-other}
+use lib.ListN.{length, take, drop, getD, set, length-drop}
+use lib.Seq.{getD-set-same, getD-set-other, length-take-le}
 use Rattle.records.specs.Words.{word, Copied}
-use Rattle.records.specs.Records.{sizeFrom, commandIn, countIn, argumentIn, offsetIn, Same, Written, Assigned, Raised, Moved, Swapped, Reversed, Exchanged}
+use Rattle.records.specs.Records.{sizeFrom, commandIn, countIn, argumentIn, offsetIn, Same, Written, Assigned, Raised, Moved, Exchanged, Swapped, Apart}
 use Rattle.records.proofs.Usages.{holds-move, same-at}
-use Rattle.records.proofs.Parts.{byte-at, same-bytes}
+use Rattle.records.proofs.Parts.{byte-at, same-bytes, returned, same-part, same-back, same-below, same-above}
 use Rattle.records.proofs.Writing.{saved}
 
 -- Copying down
@@ -50,81 +50,7 @@ itself s q = record { command = refl; nodes = refl; size = refl; argument = refl
 pub moved-none : (s : List ℕ) (to from n : ℕ) → to ≡ from → Moved s s to from n
 moved-none s to from n e = rw e (record { moved = λ i lt. itself s (from + i); below = λ i lt. itself s i; above = λ i le. itself s i })
 
--- Turning round
-
--- the records from f to i and from j to t have changed places, the last for the first; those between them are as they were
-pub record Turned (s₀ s : List ℕ) (f t i j : ℕ) : Type 0 where
-  pub sum : i + j ≡ f + t
-  pub low : f ≤ i
-  pub high : j ≤ t
-  pub near : i ≤ j
-  pub len : length s ≡ length s₀
-  pub front : (k m : ℕ) → f ≤ k → k < i → m + k + 1 ≡ f + t → Same s₀ k s m
-  pub back : (k m : ℕ) → j ≤ k → k < t → m + k + 1 ≡ f + t → Same s₀ k s m
-  pub inner : (k : ℕ) → i ≤ k → k < j → Same s₀ k s k
-  pub below : (k : ℕ) → k < f → Same s₀ k s k
-  pub above : (k : ℕ) → t ≤ k → Same s₀ k s k
-
-pub turned-none : {s : List ℕ} {f t : ℕ} → f ≤ t → Turned s s f t f t
-turned-none {s} h = record {
-  sum = refl;
-  low = omega arith;
-  high = omega arith;
-  near = h;
-  len = refl;
-  front = λ k m a b e. absurd (omega arith);
-  back = λ k m a b e. absurd (omega arith);
-  inner = λ k a b. itself s k;
-  below = λ k a. itself s k;
-  above = λ k a. itself s k;
-}
-
-pub turned-more : (s₀ s s′ : List ℕ) (f t i j i′ j′ : ℕ) → Turned s₀ s f t i j → i + 1 < j → j′ ≡ j - 1 → i′ ≡ i + 1 → Swapped s s′ i j′ → length s′ ≡ length s → Turned s₀ s′ f t i′ j′
-turned-more s₀ s s′ f t i j i′ j′ T lt ej ei W l =
-    let other : (k m : ℕ) → (m ≡ i → ⊥) → (m ≡ j′ → ⊥) → Same s₀ k s m → Same s₀ k s′ m = λ k m ni nj S. holds-move (W .others m ni nj) S in
-    record {
-      sum = omega (arith, T .sum);
-      low = omega (arith, T .low);
-      high = omega (arith, T .high);
-      near = omega arith;
-      len = l ∙ T .len;
-      front = λ k m a b e. elim (ℕ-discrete k i) [
-        | yes q ↦ same-at s₀ s′ i j′ k m (sym q) (omega arith) (holds-move (W .first) (T .inner i (omega arith) (omega arith)))
-        | no q ↦ other k m (omega arith) (omega arith) (T .front k m a (omega arith) e)
-      ];
-      back = λ k m a b e. elim (ℕ-discrete k j′) [
-        | yes q ↦ same-at s₀ s′ j′ i k m (sym q) (omega arith) (holds-move (W .second) (T .inner j′ (omega arith) (omega arith)))
-        | no q ↦ other k m (omega arith) (omega arith) (T .back k m (omega arith) b e)
-      ];
-      inner = λ k a b. other k k (omega arith) (omega arith) (T .inner k (omega arith) (omega arith));
-      below = λ k a. other k k (omega arith) (omega arith) (T .below k a);
-      above = λ k a. other k k (omega arith) (omega arith) (T .above k a);
-    }
-
-pub turned-all : (s₀ s : List ℕ) (f t i j : ℕ) → Turned s₀ s f t i j → j ≤ i + 1 → Reversed s₀ s f t
-turned-all s₀ s f t i j T le = record {
-  inside = λ k m a b e. elim (decLt k i) [
-    | yes q ↦ T .front k m a q e
-    | no q ↦ elim (decLt k j) [
-      | yes v ↦ same-at s₀ s k k k m refl (omega arith) (T .inner k (omega arith) v)
-      | no v ↦ T .back k m (omega arith) b e
-    ]
-  ];
-  below = T .below;
-  above = T .above;
-}
-
--- Exchanging: each run turned round, and then both
-
-pub exchanged : {s r₁ r₂ r₃ : List ℕ} {n m end : ℕ} → end ≡ n + m → Reversed s r₁ 0 n → Reversed r₁ r₂ n end → Reversed r₂ r₃ 0 end → Exchanged s r₃ n m
-exchanged {n} {m} {end} e A B C = record {
-  first = λ i lt.
-      holds-move (C .inside (n - 1 - i) (m + i) (omega arith) (omega arith) (omega arith))
-      (holds-move (B .below (n - 1 - i) (omega arith)) (A .inside i (n - 1 - i) (omega arith) lt (omega arith)));
-  second = λ i lt.
-      holds-move (C .inside (end - 1 - i) i (omega arith) (omega arith) (omega arith))
-      (holds-move (B .inside (n + i) (end - 1 - i) (omega arith) (omega arith) (omega arith)) (A .above (n + i) (omega arith)));
-}
+-- Exchanging
 
 -- said of the same numbers
 pub exchanged-at : (s s′ : List ℕ) (n m x y : ℕ) → x ≡ n → y ≡ m → Exchanged s s′ n m → Exchanged s s′ x y
@@ -170,44 +96,101 @@ rotated-down {s} {s₁} {s₂} {m} ec ek ef ez et eo M W = record {
   second = λ i lt. holds-move (W .others i (omega arith)) (same-at s s₁ (1 + i) (0 + i) (1 + i) i refl (omega arith) (M .moved i lt));
 }
 
--- Exchanging runs of one length
+-- Exchanging one for one
 
--- of the first n records and the n after them, the first i have changed places
-pub record Paired (s₀ s : List ℕ) (n i : ℕ) : Type 0 where
-  pub low : i ≤ n
-  pub len : length s ≡ length s₀
-  pub first : (k : ℕ) → k < i → Same s₀ k s (n + k)
-  pub second : (k : ℕ) → k < i → Same s₀ (n + k) s k
-  pub third : (k : ℕ) → i ≤ k → k < n → Same s₀ k s k
-  pub fourth : (k : ℕ) → i ≤ k → k < n → Same s₀ (n + k) s (n + k)
+pub apart-none : {s : List ℕ} {b : ℕ} → Apart s s b 0
+apart-none {s} = record { up = λ k a. absurd (omega arith); down = λ k a. absurd (omega arith); between = λ k a l. itself s k; above = λ k a. itself s k }
 
-pub paired-none : {s : List ℕ} {n : ℕ} → Paired s s n 0
-paired-none {s} {n} = record {
-  low = omega arith;
-  len = refl;
-  first = λ k a. absurd (omega arith);
-  second = λ k a. absurd (omega arith);
-  third = λ k a b. itself s k;
-  fourth = λ k a b. itself s (n + k);
-}
-
-pub paired-more : (s₀ s s′ : List ℕ) (n i j i′ : ℕ) → Paired s₀ s n i → i < n → j ≡ n + i → i′ ≡ i + 1 → Swapped s s′ i j → length s′ ≡ length s → Paired s₀ s′ n i′
-paired-more s₀ s s′ n i j i′ P lt ej ei W l =
+pub apart-more : (s₀ s s′ : List ℕ) (b n i j i′ : ℕ) → Apart s₀ s b i → n ≤ b → i < n → j ≡ b + i → i′ ≡ i + 1 → Swapped s s′ i j → Apart s₀ s′ b i′
+apart-more s₀ s s′ b n i j i′ P le lt ej ei W =
     let other : (k m : ℕ) → (m ≡ i → ⊥) → (m ≡ j → ⊥) → Same s₀ k s m → Same s₀ k s′ m = λ k m ni nj S. holds-move (W .others m ni nj) S in
     record {
-      low = omega arith;
-      len = l ∙ P .len;
-      first = λ k a. elim (ℕ-discrete k i) [
-        | yes q ↦ same-at s₀ s′ i j k (n + k) (sym q) (omega arith) (holds-move (W .first) (P .third i (omega arith) lt))
-        | no q ↦ other k (n + k) (omega arith) (omega arith) (P .first k (omega arith))
+      up = λ k a. elim (ℕ-discrete k i) [
+        | yes q ↦ same-at s₀ s′ i j k (b + k) (sym q) (omega arith) (holds-move (W .first) (P .between i (omega arith) (omega arith)))
+        | no q ↦ other k (b + k) (omega arith) (omega arith) (P .up k (omega arith))
       ];
-      second = λ k a. elim (ℕ-discrete k i) [
-        | yes q ↦ same-at s₀ s′ j i (n + k) k (omega arith) (sym q) (holds-move (W .second) (same-at s₀ s (n + i) (n + i) j j (sym ej) (sym ej) (P .fourth i (omega arith) lt)))
-        | no q ↦ other (n + k) k (omega arith) (omega arith) (P .second k (omega arith))
+      down = λ k a. elim (ℕ-discrete k i) [
+        | yes q ↦ same-at s₀ s′ j i (b + k) k (omega arith) (sym q) (holds-move (W .second) (P .above j (omega arith)))
+        | no q ↦ other (b + k) k (omega arith) (omega arith) (P .down k (omega arith))
       ];
-      third = λ k a b. other k k (omega arith) (omega arith) (P .third k (omega arith) b);
-      fourth = λ k a b. other (n + k) (n + k) (omega arith) (omega arith) (P .fourth k (omega arith) b);
+      between = λ k a l. other k k (omega arith) (omega arith) (P .between k (omega arith) l);
+      above = λ k a. other k k (omega arith) (omega arith) (P .above k (omega arith));
     }
 
-pub paired-all : (s₀ s : List ℕ) (n i : ℕ) → Paired s₀ s n i → n ≤ i → Exchanged s₀ s n n
-paired-all s₀ s n i P le = record { first = λ k lt. P .first k (omega arith); second = λ k lt. P .second k (omega arith) }
+pub apart-all : (s₀ s : List ℕ) (b i n : ℕ) → i ≤ n → n ≤ i → Apart s₀ s b i → Apart s₀ s b n
+apart-all s₀ s b i n h h′ P = let e : n ≡ i = omega arith in rw e P
+
+-- Exchanging two runs: side by side, none, and by way of a part
+
+pub exchanged-equal : (s s′ : List ℕ) (n m : ℕ) → m ≡ n → Apart s s′ n n → Exchanged s s′ n m
+exchanged-equal s s′ n m e P = rw e (record { first = P .up; second = P .down })
+
+pub exchanged-after-none : (s : List ℕ) (n m : ℕ) → n ≡ 0 → Exchanged s s n m
+exchanged-after-none s n m e = record { first = λ i lt. absurd (omega arith); second = λ i lt. same-at s s i i (n + i) i (omega arith) refl (itself s i) }
+
+pub exchanged-before-none : (s : List ℕ) (n m : ℕ) → m ≡ 0 → Exchanged s s n m
+exchanged-before-none s n m e = record { first = λ i lt. same-at s s i i i (m + i) refl (omega arith) (itself s i); second = λ i lt. absurd (omega arith) }
+
+-- y is the part of p + q records from record l on of s₁, exchanged
+module _ (s₁ y : List ℕ) (l p q x k : ℕ) (room : (l + p + q) * 32 ≤ length s₁) (start : x ≡ l * 32) (long : k ≡ (p + q) * 32)
+    (X : Exchanged (take k (drop x s₁)) y p q) (same : length y ≡ length (take k (drop x s₁))) where
+  part-length : length y ≡ (p + q) * 32
+  part-length = same ∙ length-take-le k (drop x s₁) (omega (arith, length-drop x s₁)) ∙ long
+
+  inside : (i j : ℕ) → i < p + q → j < p + q → Same (take k (drop x s₁)) i y j → Same s₁ (l + i) (returned s₁ y x k) (l + j)
+  inside i j hi hj S = holds-move (same-back s₁ y x k l (p + q) j start (omega arith) (omega (arith, part-length)) hj)
+      (holds-move S (same-part s₁ x k l (p + q) i start (omega arith) hi))
+
+  part-first : (i : ℕ) → i < p → Same s₁ (l + i) (returned s₁ y x k) (l + (q + i))
+  part-first i lt = inside i (q + i) (omega arith) (omega arith) (X .first i lt)
+
+  part-second : (i : ℕ) → i < q → Same s₁ (l + (p + i)) (returned s₁ y x k) (l + i)
+  part-second i lt = inside (p + i) i (omega arith) (omega arith) (X .second i lt)
+
+  part-below : (i : ℕ) → i < l → Same s₁ i (returned s₁ y x k) i
+  part-below i lt = same-below s₁ y x k l i start (omega arith) lt
+
+  part-above : (i : ℕ) → l + p + q ≤ i → Same s₁ i (returned s₁ y x k) i
+  part-above i le = same-above s₁ y x k l (p + q) i start (omega arith) long part-length (omega arith)
+
+-- the first run is at the end, and the end of the second stands before its beginning
+pub exchanged-front : (s s₁ y : List ℕ) (n m d k : ℕ) → length s₁ ≡ (n + m) * 32 → n < m → d ≡ m - n → k ≡ m * 32 - 0 → Apart s s₁ m n
+    → Exchanged (take k s₁) y n d → length y ≡ length (take k s₁) → Exchanged s (returned s₁ y 0 k) n m
+exchanged-front s s₁ y n m d k room lt ed ek P X same =
+    let z : List ℕ = returned s₁ y 0 k in
+    record {
+      first = λ i h. holds-move (part-above s₁ y 0 n d 0 k (omega arith) refl (omega arith) X same (m + i) (omega arith)) (P .up i h);
+      second = λ i h. elim (decLt i d) [
+        | yes v ↦ holds-move (same-at s₁ z (0 + (n + i)) (0 + i) (n + i) i (omega arith) (omega arith) (part-second s₁ y 0 n d 0 k (omega arith) refl (omega arith) X same i v)) (P .between (n + i) (omega arith) (omega arith))
+        | no v ↦ same-at s z (m + (i - d)) i (n + i) i (omega arith) refl
+            (holds-move (same-at s₁ z (0 + (i - d)) (0 + (d + (i - d))) (i - d) i (omega arith) (omega arith) (part-first s₁ y 0 n d 0 k (omega arith) refl (omega arith) X same (i - d) (omega arith)))
+            (P .down (i - d) (omega arith)))
+      ];
+    }
+
+-- the second run is at the front, and the end of the first stands before its beginning
+pub exchanged-back : (s s₁ y : List ℕ) (n m d x k : ℕ) → length s₁ ≡ (n + m) * 32 → m ≤ n → d ≡ n - m → x ≡ m * 32 → k ≡ (n + m) * 32 - m * 32 → Apart s s₁ n m
+    → Exchanged (take k (drop x s₁)) y d m → length y ≡ length (take k (drop x s₁)) → Exchanged s (returned s₁ y x k) n m
+exchanged-back s s₁ y n m d x k room le ed ex ek P X same =
+    let z : List ℕ = returned s₁ y x k in
+    record {
+      first = λ i h. elim (decLt i m) [
+        | yes v ↦ holds-move (same-at s₁ z (m + (d + i)) (m + i) (n + i) (m + i) (omega arith) refl (part-second s₁ y m d m x k (omega arith) ex (omega arith) X same i v)) (P .up i v)
+        | no v ↦ holds-move (same-at s₁ z (m + (i - m)) (m + (m + (i - m))) i (m + i) (omega arith) (omega arith) (part-first s₁ y m d m x k (omega arith) ex (omega arith) X same (i - m) (omega arith)))
+            (P .between i (omega arith) h)
+      ];
+      second = λ i h. holds-move (part-below s₁ y m d m x k (omega arith) ex (omega arith) X same i h) (P .down i h);
+    }
+
+-- what is lent of the bytes for that: so many records, and fewer than there were
+pub front-lent : (s : List ℕ) (n m : ℕ) → length s ≡ (n + m) * 32 → n < m → length (take (m * 32 - 0) s) ≡ (n + (m - n)) * 32
+front-lent s n m room lt = length-take-le (m * 32 - 0) s (omega arith) ∙ omega arith
+
+pub back-lent : (s : List ℕ) (n m : ℕ) → length s ≡ (n + m) * 32 → m ≤ n → length (take ((n + m) * 32 - m * 32) (drop (m * 32) s)) ≡ (n - m + m) * 32
+back-lent s n m room le = length-take-le ((n + m) * 32 - m * 32) (drop (m * 32) s) (omega (arith, length-drop (m * 32) s)) ∙ omega arith
+
+pub front-fewer : (n m t : ℕ) → n + m ≡ t → n < m → (n ≡ 0 → ⊥) → n + (m - n) < t
+front-fewer n m t e lt some = omega arith
+
+pub back-fewer : (n m t : ℕ) → n + m ≡ t → m ≤ n → (m ≡ 0 → ⊥) → n - m + m < t
+back-fewer n m t e le some = omega arith

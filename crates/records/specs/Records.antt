@@ -99,8 +99,9 @@ pub record Swapped (s s′ : List ℕ) (i j : ℕ) : Type 0 where
   pub second : Same s j s′ i
   pub others : (k : ℕ) → (k ≡ i → ⊥) → (k ≡ j → ⊥) → Same s k s′ k
 
--- the records from f to t stand in the other order
-pub record Reversed (s s′ : List ℕ) (f t : ℕ) : Type 0 where
-  pub inside : (i m : ℕ) → f ≤ i → i < t → m + i + 1 ≡ f + t → Same s i s′ m
-  pub below : (i : ℕ) → i < f → Same s i s′ i
-  pub above : (i : ℕ) → t ≤ i → Same s i s′ i
+-- the first n records and the n from record b on have changed places, one for one
+pub record Apart (s s′ : List ℕ) (b n : ℕ) : Type 0 where
+  pub up : (i : ℕ) → i < n → Same s i s′ (b + i)
+  pub down : (i : ℕ) → i < n → Same s (b + i) s′ i
+  pub between : (i : ℕ) → n ≤ i → i < b → Same s i s′ i
+  pub above : (i : ℕ) → b + n ≤ i → Same s i s′ i

@@ -4,7 +4,7 @@ ghost use Prim.Native.Nat.{_+_, _*_, _<_, _≤_};
 ghost use lib.ListN.{length};
 ghost use Rattle.qptr.specs.Values.{sizeOf};
 ghost use Rattle.records.specs.Words.{word, put, Copied};
-ghost use Rattle.records.specs.Records.{sizeFrom, commandIn, countIn, sizeIn, argumentIn, offsetIn, Moved, Exchanged, Sized, Counted, Shifted, Typed, Written, Assigned, Raised, Swapped, Reversed, tagIn, pastIn, Marked};
+ghost use Rattle.records.specs.Records.{sizeFrom, commandIn, countIn, sizeIn, argumentIn, offsetIn, Moved, Exchanged, Sized, Counted, Shifted, Typed, Written, Assigned, Raised, Swapped, Apart, tagIn, pastIn, Marked};
 use qptr::MaxSize;
 
 // The bytes of a record.
@@ -208,20 +208,6 @@ fn swap(s: &mut [u8], i: usize, j: usize)
     put_words(s, j, c, n, f, z, t, o);
 }
 
-// The records from f to t stand in the other order.
-fn reverse(s: &mut [u8], f: usize, t: usize)
-    requires { ⌜ (f ≤ t) × (t * 32 ≤ length (now s)) ⌝ }
-    ensures { λ r. ⌜ Reversed (now (s .entry)) (now (s .exit)) f t ⌝ }
-{
-    let mut i = f;
-    let mut j = t;
-    while i + 1 < j {
-        j = j - 1;
-        swap(s, i, j);
-        i = i + 1;
-    }
-}
-
 // Record `to` says what record `from` says.
 fn assign(s: &mut [u8], to: usize, from: usize)
     requires { ⌜ (to * 32 + 32 ≤ length (now s)) × (from * 32 + 32 ≤ length (now s)) ⌝ }
@@ -278,25 +264,26 @@ fn rotate_down(s: &mut [u8], m: usize)
     put_words(s, m, c, k, f, z, t, o);
 }
 
-// The first n records and the n after them change places, one for one.
-fn swap_runs(s: &mut [u8], n: usize)
-    requires { ⌜ (n + n) * 32 ≤ length (now s) ⌝ }
-    ensures { λ r. ⌜ Exchanged (now (s .entry)) (now (s .exit)) n n ⌝ }
+// The first n records and the n from record b on change places, one for one.
+fn swap_apart(s: &mut [u8], b: usize, n: usize)
+    requires { ⌜ (n ≤ b) × ((b + n) * 32 ≤ length (now s)) ⌝ }
+    ensures { λ r. ⌜ Apart (now (s .entry)) (now (s .exit)) b n ⌝ }
 {
     let mut i = 0;
     while i < n {
-        swap(s, i, n + i);
+        swap(s, i, b + i);
         i = i + 1;
     }
 }
 
 // The first n records and the m after them change places: with few moves if the runs are equally long or one of them is a single record.
+// Otherwise the shorter run goes to its place, and what it changes places with is exchanged with the rest of the longer one.
 pub fn exchange(s: &mut [u8], n: usize, m: usize)
     requires { ⌜ length (now s) ≡ (n + m) * 32 ⌝ }
     ensures { λ r. ⌜ Exchanged (now (s .entry)) (now (s .exit)) n m ⌝ }
 {
     if m == n {
-        swap_runs(s, n);
+        swap_apart(s, n, n);
         return;
     }
     if m == 1 {
@@ -307,8 +294,20 @@ pub fn exchange(s: &mut [u8], n: usize, m: usize)
         rotate_down(s, m);
         return;
     }
-    let end = n + m;
-    reverse(s, 0, n);
-    reverse(s, n, end);
-    reverse(s, 0, end);
+    if n == 0 {
+        return;
+    }
+    if m == 0 {
+        return;
+    }
+    if n < m {
+        let b = m * 32;
+        swap_apart(s, m, n);
+        exchange(&mut s[0..b], n, m - n);
+        return;
+    }
+    let a = m * 32;
+    let e = (n + m) * 32;
+    swap_apart(s, n, m);
+    exchange(&mut s[a..e], n - m, m);
 }
