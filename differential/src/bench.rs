@@ -224,11 +224,12 @@ pub fn compared(kind: CallKind, usages: &[Usage]) -> Compared {
         _ => (list.clone(), Vec::new()),
     };
     let output = Buffer { length: list.len(), fill: 0 };
-    let report = Buffer { length: 1024, fill: 0 };
+    let nodes: usize = usages.iter().map(Usage::nodes).sum();
+    // as much as a report of so many nodes can take, up to a kibibyte
+    let report = Buffer { length: (7 * nodes * (nodes - 1)).min(1024), fill: 0 };
     let call = Call { kind, table: write_table(&table), second, output, report, ..sound(first) };
     let answer = Library.answer(&call);
     assert_eq!(answer.number, 0, "the call is answered");
-    let nodes: usize = usages.iter().map(Usage::nodes).sum();
     let times = (20_000 / (nodes as u32 + answer.pairings as u32)).max(1);
     let micros = |run: &dyn Fn() -> Duration| median(run).as_secs_f64() * 1e6 / f64::from(times);
     Compared {
