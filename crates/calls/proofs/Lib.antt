@@ -6,7 +6,6 @@ pub mod Sounding
 pub mod Supporting
 pub mod Pairs
 pub mod Placing
-pub mod FirstBytes
 pub mod Merging
 pub mod Promises
 pub mod FoldCalls

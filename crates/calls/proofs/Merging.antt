@@ -20,7 +20,7 @@ use Rattle.stream.specs.Found.{topBound, told}
 use Rattle.stream.specs.declared.Found.{Found}
 use Rattle.answers.specs.Answers.{answerOf}
 use Rattle.inputs.specs.Inputs.{Good, Met}
-use Rattle.calls.specs.Tops.{OpaqueFirst, Conflicts}
+use Rattle.inputs.specs.Tops.{OpaqueFirst, Conflicts}
 use Rattle.answers.specs.Writing.{Gives, Reached, Finished, unlikeReport}
 use Rattle.answers.specs.declared.Answer.{Answer}
 use Rattle.inputs.specs.declared.Inputs.{Inputs}
@@ -28,7 +28,7 @@ use Rattle.inputs.proofs.Types.{top-types-in}
 use Rattle.answers.proofs.Giving.{gives-kept}
 use Rattle.inputs.proofs.Accepting.{body, refused-by, Going, goes-on}
 use Rattle.calls.proofs.Pairs.{usable, Pair}
-use Rattle.calls.proofs.FirstBytes.{firstByte, some-bytes, first-byte}
+use Rattle.inputs.proofs.FirstBytes.{firstByte, some-bytes, first-byte}
 
 -- what is told of a stream
 abbrev pub toldTop : List ℕ → Found

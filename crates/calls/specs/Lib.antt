@@ -1,4 +1,3 @@
 pub mod Received
 pub mod Roots
-pub mod Tops
 pub mod Promised

@@ -6,7 +6,6 @@ ghost use Rattle.answers.specs.Answers.{answerOf};
 ghost use Rattle.answers.specs.Writing.{Gives};
 ghost use Rattle.calls.specs.Received.{receivedOf};
 ghost use Rattle.calls.specs.Roots.{Rooted};
-ghost use Rattle.calls.specs.Tops.{OpaqueFirst, Conflicts};
 ghost use Rattle.calls.specs.Promised.{Promised};
 use analyze::merge_mem;
 use analyze::merge_mem_at;
@@ -25,6 +24,7 @@ use answers::said;
 use inputs::NODES;
 use inputs::WORK;
 use inputs::accept;
+use inputs::conflicts;
 use inputs::load_both;
 use qptr::Node;
 use stream::Found;
@@ -187,20 +187,6 @@ pub fn place(
         0,
     );
     finish(MEMORY, r, work, output, rep)
-}
-
-// An Opaque and another top: a conflict, unless they are the same Opaque.
-fn conflicts(first: &[u8], second: &[u8]) -> usize
-    requires { ⌜ OpaqueFirst (now first) (now second) ⌝ }
-    ensures { λ r. ⌜ Conflicts (now (first .entry)) (now (second .entry)) r ⌝ }
-{
-    if first[0] != second[0] {
-        return 1;
-    }
-    if records::get32(first, 1) != records::get32(second, 1) {
-        return 1;
-    }
-    0
 }
 
 // Two Buffers or two Memories are merged; of others the first stays.

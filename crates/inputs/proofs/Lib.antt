@@ -5,3 +5,4 @@ pub mod Meeting
 pub mod Accepting
 pub mod SideBySide
 pub mod Lending
+pub mod FirstBytes

@@ -1,8 +1,10 @@
-// What the calls are given: the refusals 1 to 7 of a table and its streams, in their order, but for 6; and two usages loaded.
+// What the calls are given: the refusals 1 to 7 of a table and its streams, in their order, but for 6; whether
+// an Opaque and another top conflict; and two usages loaded.
 ghost use mathlib.Core.Path.{_≡_};
 ghost use Prim.Native.Nat.{_≤_};
 ghost use lib.ListN.{length};
 ghost use Rattle.inputs.specs.Inputs.{Met, Both, BothLoaded};
+ghost use Rattle.inputs.specs.Tops.{OpaqueFirst, Conflicts};
 use answers::BAD_FIRST;
 use answers::BAD_SECOND;
 use answers::BAD_TABLE;
@@ -86,4 +88,18 @@ pub fn load_both(first: &[u8], na: usize, second: &[u8], nb: usize, work: &mut [
 {
     transfer::load(first, 1, na, work, 0);
     transfer::load(second, 1, nb, work, na);
+}
+
+// An Opaque and another top: a conflict, unless they are the same Opaque.
+pub fn conflicts(first: &[u8], second: &[u8]) -> usize
+    requires { ⌜ OpaqueFirst (now first) (now second) ⌝ }
+    ensures { λ r. ⌜ Conflicts (now (first .entry)) (now (second .entry)) r ⌝ }
+{
+    if first[0] != second[0] {
+        return 1;
+    }
+    if records::get32(first, 1) != records::get32(second, 1) {
+        return 1;
+    }
+    0
 }

@@ -3,9 +3,9 @@
 use mathlib.Core.Path.{sym, _∙_}
 use native.Mathlib.Omega.{arith}
 use Rattle.definitions.proofs.Written.{Bytes}
-use Rattle.calls.proofs.FirstBytes.{some-bytes, opaque-bytes, other-bytes, other-kind, other-type, same-opaque}
-use Rattle.calls.proofs.conflicts.Statement.{statement}
-use Rattle.calls.proofs.conflicts.Tie as tie
+use Rattle.inputs.proofs.FirstBytes.{some-bytes, opaque-bytes, other-bytes, other-kind, other-type, same-opaque}
+use Rattle.inputs.proofs.conflicts.Statement.{statement}
+use Rattle.inputs.proofs.conflicts.Tie as tie
 
 first-bytes : (c : tie.After-shared-slice-known2) → Bytes (c .before .before .args .first .now)
 first-bytes c k = c .before .shared-slice-known .given k .fits

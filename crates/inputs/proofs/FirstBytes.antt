@@ -19,7 +19,7 @@ use Rattle.definitions.proofs.Numbers.{number-bytes}
 use Rattle.definitions.proofs.Rounds.{top-written}
 use Rattle.records.specs.Words.{word}
 use Rattle.records.proofs.Words.{word-number}
-use Rattle.calls.specs.Tops.{OpaqueFirst, Conflicts}
+use Rattle.inputs.specs.Tops.{OpaqueFirst, Conflicts}
 
 abbrev pub firstByte : Top → ℕ
 firstByte (opaque t) = 0x08
