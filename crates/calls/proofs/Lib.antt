@@ -1,12 +1,3 @@
-pub mod Memories
 pub mod Roots
 pub mod Receivers
-pub mod Loads
-pub mod Sounding
-pub mod Supporting
-pub mod Pairs
-pub mod Placing
-pub mod Merging
-pub mod Promises
-pub mod FoldCalls
-pub mod Sanity
+pub mod Lending

@@ -1,3 +1,2 @@
 pub mod Received
 pub mod Roots
-pub mod Promised

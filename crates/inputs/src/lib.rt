@@ -1,8 +1,8 @@
 // What the calls are given: the refusals 1 to 7 of a table and its streams, in their order, but for 6; whether
 // an Opaque and another top conflict; and two usages loaded.
 ghost use mathlib.Core.Path.{_≡_};
-ghost use Prim.Native.Nat.{_≤_};
 ghost use lib.ListN.{length};
+ghost use Rattle.layout.specs.Places.{Room};
 ghost use Rattle.inputs.specs.Inputs.{Met, Both, BothLoaded};
 ghost use Rattle.inputs.specs.Tops.{OpaqueFirst, Conflicts};
 use answers::BAD_FIRST;
@@ -37,7 +37,7 @@ fn unmet(refusal: u32) -> Inputs
 
 // The refusals 1 to 7 in their order, but for 6.
 pub fn accept(table: &[u8], work: &[u8], places: &mut [u32], a: Found, b: Found) -> Inputs
-    requires { ⌜ 1024 ≤ length (now places) ⌝ }
+    requires { ⌜ Room (now table) (now places) ⌝ }
     ensures { λ r. ⌜ Met (now (table .entry)) (length (now (work .entry))) a b (now (places .exit)) r ⌝ }
 {
     if work.len() < WORK {

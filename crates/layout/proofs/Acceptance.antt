@@ -16,7 +16,7 @@ use Rattle.definitions.specs.Stream.{broken, read}
 use Rattle.definitions.specs.Table.{Table, TypeLayout as Layout, failed, readLayout, readRecords, readTable, admitted, tableOf}
 use Rattle.layout.specs.Bytes.{pair}
 use Rattle.layout.specs.Values.{Whole, Ended, Ends}
-use Rattle.layout.specs.Places.{Places, Stand, Admitted, Found, Accepted}
+use Rattle.layout.specs.Places.{Places, Stand, Admitted, Room, Found, Accepted}
 use Rattle.layout.specs.declared.RecordEnd.{RecordEnd}
 use Rattle.layout.specs.declared.RecordEnd.the-variants.{At, Broken}
 use Rattle.layout.proofs.Clash.{clash}
@@ -79,7 +79,7 @@ pub record Reading (s places : List ℕ) (count at n : ℕ) : Type 0 where
   pub stand : Stand s places n table
   pub within : n ≤ count
   pub limit : count ≤ 1024
-  pub room : 1024 ≤ length places
+  pub room : count ≤ length places
   pub inside : at ≤ length s
   pub near : at ≤ 2 + n * 523
   pub is : readTable s ≡ readRecords (count - n) table (drop at s)
@@ -95,7 +95,7 @@ pub many-records : (s : List ℕ) (count : ℕ) → 2 ≤ length s → count ≡
 unfolding if_then_else_
 many-records s count h e m = refused s (rw (two s 0 2 refl h, ← e, lt-ltb 1024 count m))
 
-pub first-record : (s places : List ℕ) (count : ℕ) → 1024 ≤ length places → 2 ≤ length s → count ≡ pair s 0 → count ≤ 1024 → Reading s places count 2 0
+pub first-record : (s places : List ℕ) (count : ℕ) → Room s places → 2 ≤ length s → count ≡ pair s 0 → count ≤ 1024 → Reading s places count 2 0
 unfolding if_then_else_
 first-record s places count w h e m =
     let z : count - 0 ≡ count = omega arith in
@@ -104,7 +104,7 @@ first-record s places count w h e m =
       stand = record { count = refl; placed = λ ty l. absurd (omega arith) };
       within = omega arith;
       limit = m;
-      room = w;
+      room = omega (arith, w (omega arith));
       inside = h;
       near = omega arith;
       is = rw (two s 0 2 refl h, ← e, le-ltb 1024 count m, z);

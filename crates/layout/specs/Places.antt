@@ -1,14 +1,15 @@
 -- Where the records of a layout table stand, what their types are, and what acceptance tells of the bytes.
 -- Assumes nothing.
-use Prim.Native.Nat.{ℕ, _<_}
+use Prim.Native.Nat.{ℕ, _≤_, _<_}
 use mathlib.Core.Path.{_≡_}
 use mathlib.Core.Bool.{Bool, true, false}
 use mathlib.Core.List.{List}
 use mathlib.Core.Option.{none as nothing, some}
 use lib.ListN.{length, getD, take, drop}
+use Rattle.definitions.specs.Limits.{recordLimit}
 use Rattle.definitions.specs.Stream.{read}
 use Rattle.definitions.specs.Table.{Table, TypeLayout as Layout, layoutOf, isConcrete, readLayout, fieldsAdmitted, admitted, tableOf}
-use Rattle.layout.specs.Bytes.{fieldsAt}
+use Rattle.layout.specs.Bytes.{pair, fieldsAt}
 use Rattle.layout.specs.Values.{layoutIn, Formed}
 use Rattle.layout.specs.declared.Records.{Records}
 use Rattle.layout.specs.declared.TypeLayout.{TypeLayout}
@@ -64,6 +65,10 @@ pub record Admitted (s places : List ℕ) (n at : ℕ) (r : Bool) : Type 0 where
   pub is : (t : Table) → Stand s places n t → (l : Layout) (rest : List ℕ) → readLayout (drop at s) ≡ read l rest → r ≡ admitted t l
 
 -- Acceptance. Of a table that is refused nothing is said of the places.
+
+-- there is a place for each record that s says it has, unless it says more than a table may have
+abbrev pub Room : List ℕ → List ℕ → Type 0
+Room s places = pair s 0 ≤ recordLimit → pair s 0 ≤ length places
 
 pub record Found (s places : List ℕ) (n : ℕ) : Type 0 where
   pub table : Table

@@ -1,5 +1,6 @@
 // Layout tables: which bytes are one, what the record of a type says, and which of its components contain a range.
 ghost use mathlib.Core.Path.{_≡_};
+ghost use mathlib.Core.Bool.{true};
 ghost use Prim.Native.Nat.{_+_, _*_, _<_, _≤_};
 ghost use lib.ListN.{length, getD};
 ghost use Rattle.records.specs.Words.{word};
@@ -8,13 +9,16 @@ ghost use Rattle.definitions.specs.Containment.{endOf, atLength, elementSize};
 ghost use Rattle.qptr.specs.Values.{sizeOf};
 ghost use Rattle.layout.specs.Bytes.{pair};
 ghost use Rattle.layout.specs.Values.{Whole, Reads, Ends};
-ghost use Rattle.layout.specs.Places.{Accepted, InTable, LayoutIs, Says, Standing, Earlier, FieldsAdmitted, Admitted};
+ghost use Rattle.layout.specs.Places.{Room, Accepted, InTable, LayoutIs, Says, Standing, Earlier, FieldsAdmitted, Admitted};
 ghost use Rattle.layout.specs.Containing.{sizeIn, InElements, Contains, FieldsInTable, InFields, Finds};
 use qptr::MaxSize;
 use records::get32;
 
 // How many records a table may have, and how many fields one of them.
 pub const RECORDS: usize = 1024;
+
+// As many records as most tables have at most.
+pub const FEW: usize = 64;
 
 const FIELDS: usize = 64;
 
@@ -300,10 +304,20 @@ const REFUSED: Records = Records {
     count: 0,
 };
 
+// Does a table say that it has few records?
+pub fn has_few(s: &[u8]) -> bool
+    ensures { λ r. ⌜ (r ≡ true → pair (now (s .entry)) 0 ≤ 64) ⌝ }
+{
+    if s.len() < 2 {
+        return false;
+    }
+    get16(s, 0) <= FEW
+}
+
 // Is this a layout table? Where each record begins is kept in `places`, for `layout_of` and all that rests on it. A table that
 // is accepted has at most 535,554 bytes, so a place fits 32 bits.
 pub fn accept(s: &[u8], places: &mut [u32]) -> Records
-    requires { ⌜ 1024 ≤ length (now places) ⌝ }
+    requires { ⌜ Room (now s) (now places) ⌝ }
     ensures { λ r. ⌜ Accepted (now (s .entry)) r (now (places .exit)) ⌝ }
 {
     if s.len() < 2 {

@@ -1,21 +1,21 @@
--- The words that are read and written for what is remembered, and the places among the denials.
+-- The words that are read and written for what is remembered, by the nodes and in a list.
 -- Assumes nothing.
-use Prim.Native.Nat.{ℕ, _+_, _*_, _≤_, _<_}
-use mathlib.Core.Path.{_≡_, refl, sym, _∙_}
+use Prim.Native.Nat.{ℕ, _+_, _*_, _/_, _≤_, _<_}
+use mathlib.Core.Path.{_≡_, refl, sym, ap, _∙_}
 use mathlib.Core.Bool.{Bool, true, false}
 use mathlib.Core.List.{List}
+use mathlib.Core.Logic.{inl, inr}
 use native.Mathlib.Omega.{arith}
 use native.Mathlib.Decide.{ℕ-discrete}
 use lib.ListN.{length, getD, set}
-use lib.Seq.{getD-set-same, getD-set-other}
-use borrow.Author.Tests.{eqb-true}
-use lib.Dec.{eqb}
+use lib.Seq.{getD-set-same, getD-set-other, lt-length-set}
 use Rattle.definitions.proofs.Earlier.{accepted}
 use Rattle.definitions.proofs.Nodes.{some-node}
 use Rattle.records.specs.Records.{countIn, tagIn, pastIn, Marked}
 use Rattle.support.specs.Known.{Stands, TypeKnown, Unchanged}
-use Rattle.support.specs.Memory.{DeniedIn, Recollects, Denies, Remembers, Forgotten}
-use Rattle.support.specs.declared.Recalled.the-variants.{Nothing, No, Yes, Denied}
+use Rattle.support.specs.Memory.{tagOf, In, looksUp, LooksUp, recollects, Recollects, Keeps, Remembers, Forgotten}
+use Rattle.support.specs.declared.Recalled.{Recalled}
+use Rattle.support.specs.declared.Recalled.the-variants.{Nothing, No, Yes}
 use Rattle.support.proofs.Roots.{count-is}
 use Rattle.support.proofs.Staying.{unchanged-none, unchanged-both, count-stays}
 
@@ -27,54 +27,66 @@ type-few {table} w = omega (arith, w .below, accepted table (w .setting .table) 
 pub node-few : {s : List ℕ} {q : ℕ} → Stands s q → q < 65536
 node-few w = omega (arith, w .few, some-node (w .usage))
 
--- Denials
+-- A tag is of one number and one answer
 
-pub found-denied : (d : List ℕ) (ty q : ℕ) → eqb (getD d ty 0) (q + 1) ≡ true → DeniedIn d ty q
-found-denied d ty q h = eqb-true (getD d ty 0) (q + 1) h
+pub one-tag : (t ty : ℕ) (c b : Bool) → tagOf ty b ≡ tagOf t c → (t ≡ ty) × (c ≡ b)
+one-tag t ty true true e = (omega arith, refl)
+one-tag t ty true false e = absurd (omega arith)
+one-tag t ty false true e = absurd (omega arith)
+one-tag t ty false false e = (omega arith, refl)
 
-pub denies-nothing : {d : List ℕ} {ty q : ℕ} → Denies d d ty q
-denies-nothing = record { others = λ t i other e. e }
+-- The list
 
-pub denies-one : (d : List ℕ) (ty q : ℕ) → ty < length d → Denies d (set d ty (q + 1)) ty q
-denies-one d ty q l = record {
-  others = λ t j other h.
-      elim (ℕ-discrete t ty) [
-        | yes same ↦
-            let put : getD (set d ty (q + 1)) ty 0 ≡ q + 1 = getD-set-same d ty (q + 1) 0 l in
-            let there : getD (set d ty (q + 1)) ty 0 ≡ j + 1 = rw same at h in
-            absurd (other (same, omega arith))
-        | no apart ↦ sym (getD-set-other d ty t (q + 1) 0 apart) ∙ h
-      ];
-}
+module _ {d : List ℕ} {ty at q : ℕ} where
+  pub keeps-nothing : {b : Bool} → Keeps d d ty at q b
+  keeps-nothing = record { each = λ t o i c l h. inl h }
+
+  pub keeps-one : {b : Bool} {k v j n : ℕ} → ty < 1024 → k ≡ q * 1024 + ty → v ≡ tagOf k b → j < n → n ≡ length d / 2 → Keeps d (set (set d (j * 2) v) (j * 2 + 1) at) ty at q b
+  keeps-one {b} {k} {v} {j} {n} few ek ev l en =
+      let first : getD (set (set d (j * 2) v) (j * 2 + 1) at) (j * 2) 0 ≡ v = getD-set-other (set d (j * 2) v) (j * 2 + 1) (j * 2) at 0 (λ e. omega arith) ∙ getD-set-same d (j * 2) v 0 (omega arith) in
+      let second : getD (set (set d (j * 2) v) (j * 2 + 1) at) (j * 2 + 1) 0 ≡ at = getD-set-same (set d (j * 2) v) (j * 2 + 1) at 0 (lt-length-set d (j * 2) v (omega arith)) in
+      record {
+        each = λ t o i c m h. elim (ℕ-discrete (h .place) j) [
+          | yes same ↦
+              let tag : getD (set (set d (j * 2) v) (j * 2 + 1) at) (j * 2) 0 ≡ tagOf (i * 1024 + t) c = rw same at (h .tag) in
+              let past : getD (set (set d (j * 2) v) (j * 2 + 1) at) (j * 2 + 1) 0 ≡ o = rw same at (h .past) in
+              let x = one-tag (i * 1024 + t) k c b (sym ev ∙ sym first ∙ tag) in
+              inr (omega (arith, x .0), sym past ∙ second, omega (arith, x .0), x .1)
+          | no apart ↦
+              inl (record {
+                place = h .place;
+                tag = sym (getD-set-other d (j * 2) (h .place * 2) v 0 (λ e. apart (omega arith))) ∙ sym (getD-set-other (set d (j * 2) v) (j * 2 + 1) (h .place * 2) at 0 (λ e. omega arith)) ∙ h .tag;
+                past = sym (getD-set-other d (j * 2) (h .place * 2 + 1) v 0 (λ e. omega arith)) ∙ sym (getD-set-other (set d (j * 2) v) (j * 2 + 1) (h .place * 2 + 1) at 0 (λ e. apart (omega arith))) ∙ h .past;
+              })
+        ];
+      }
+
+-- what stands at place j is the question's
+pub listed : {d : List ℕ} {ty at q k t : ℕ} (j : ℕ) (b : Bool) → k ≡ q * 1024 + ty → t ≡ tagOf k b → getD d (j * 2) 0 ≡ t → getD d (j * 2 + 1) 0 ≡ at → In d ty at q b
+listed j b ek et tag past = record { place = j; tag = tag ∙ et ∙ ap (λ n. tagOf n b) ek; past = past }
 
 -- Recalling
 
+from-list : (ty at : ℕ) (s : List ℕ) (q : ℕ) (d : List ℕ) (r : Recalled) → looksUp ty at q d r → recollects ty at s q d r
+from-list ty at s q d Nothing h = tt
+from-list ty at s q d No h = inr h
+from-list ty at s q d Yes h = inr h
+
 module _ {ty at : ℕ} {s : List ℕ} {q : ℕ} {d : List ℕ} where
-  pub recollects-nothing : Recollects ty at s q d Nothing
-  recollects-nothing = record { is = tt }
-
-  pub recollects-denied : {b : Bool} → at ≡ 0 → (b ≡ true → DeniedIn d ty q) → b ≡ true → Recollects ty at s q d Denied
-  recollects-denied e f h = record { is = (e, f h) }
-
   module _ {p t : ℕ} (x : p ≡ pastIn s q) (e : p ≡ at) (y : t ≡ tagIn s q) where
-    pub recollects-no : t ≡ ty * 2 + 1 → Recollects ty at s q d No
-    recollects-no h = record { is = record { tag = sym y ∙ h; past = sym x ∙ e } }
+    pub recollects-no : t ≡ tagOf ty false → Recollects ty at s q d No
+    recollects-no h = record { is = inl (record { tag = sym y ∙ h; past = sym x ∙ e }) }
 
-    pub recollects-yes : t ≡ ty * 2 + 2 → Recollects ty at s q d Yes
-    recollects-yes h = record { is = record { tag = sym y ∙ h; past = sym x ∙ e } }
+    pub recollects-yes : t ≡ tagOf ty true → Recollects ty at s q d Yes
+    recollects-yes h = record { is = inl (record { tag = sym y ∙ h; past = sym x ∙ e }) }
+
+  pub recollects-listed : {r : Recalled} → LooksUp ty at q d r → Recollects ty at s q d r
+  recollects-listed {r} L = record { is = from-list ty at s q d r (L .is) }
 
 -- Remembering
 
-module _ {ty at : ℕ} {s s′ : List ℕ} {q : ℕ} {d : List ℕ} {b : Bool} where
-  pub remembers-yes : b ≡ true → Marked s s′ q (ty * 2 + 2) at → Remembers ty at s s′ q d d b
-  remembers-yes e m = rw e (record { node = m; others = λ t i other h. h })
-
-  module _ (e : b ≡ false) (m : Marked s s′ q (ty * 2 + 1) at) where
-    pub remembers-no : Remembers ty at s s′ q d d b
-    remembers-no = rw e (record { node = m; others = λ t i other h. h })
-
-    pub remembers-denial : {d′ : List ℕ} → at ≡ 0 → Denies d d′ ty q → Remembers ty at s s′ q d d′ b
-    remembers-denial first D = rw e (record { node = m; others = λ t i other h. D .others t i (λ x. other (x .0, x .1, first, refl)) h })
+pub remembers : {ty at : ℕ} {s s′ : List ℕ} {q : ℕ} {d d′ : List ℕ} {b : Bool} {t : ℕ} → t ≡ tagOf ty b → Marked s s′ q t at → Keeps d d′ ty at q b → Remembers ty at s s′ q d d′ b
+remembers e m k = record { node = rw e at m; list = k }
 
 -- Forgetting: the nodes up to i have no tag
 

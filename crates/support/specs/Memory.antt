@@ -1,9 +1,10 @@
--- What is remembered of questions: each node has the last one that went past the first tests, and each type the node that it
--- last denied at offset 0. The invariant is that it is true.
+-- What is remembered of questions: each node has the last one that went past the first tests, and a list has others, until later ones
+-- take their places. The invariant is that it is true.
 -- Assumes nothing.
 use Prim.Native.Nat.{ℕ, _+_, _*_, _≤_, _<_}
 use mathlib.Core.Path.{_≡_}
 use mathlib.Core.Bool.{Bool, true, false, _||_}
+use mathlib.Core.Logic.{_⊎_}
 use mathlib.Core.List.{List}
 use lib.ListN.{getD}
 use Rattle.definitions.specs.Usage.{Usage}
@@ -17,35 +18,37 @@ use Rattle.support.specs.Answers.{InEach, Supports}
 use Rattle.support.specs.declared.First.{First}
 use Rattle.support.specs.declared.First.the-variants.{No, Yes, Open}
 use Rattle.support.specs.declared.Recalled.{Recalled}
-use Rattle.support.specs.declared.Recalled.the-variants.{Nothing, No as WasNo, Yes as WasYes, Denied as WasDenied}
+use Rattle.support.specs.declared.Recalled.the-variants.{Nothing, No as WasNo, Yes as WasYes}
 
--- A node's tag is 0, or a type doubled and one more for no, or two for yes.
+-- A tag is 0, or a number doubled and one more for no, or two for yes. A node's is that of the type.
 abbrev pub tagOf : ℕ → Bool → ℕ
-tagOf ty false = ty * 2 + 1
-tagOf ty true = ty * 2 + 2
+tagOf k false = k * 2 + 1
+tagOf k true = k * 2 + 2
 
--- node q is the last that the type denied at offset 0
-abbrev pub DeniedIn : List ℕ → ℕ → ℕ → Type 0
-DeniedIn d ty q = getD d ty 0 ≡ q + 1
+-- An answer in a list is two words, the tag of node and type and then the offset, wherever they stand.
+pub record In (d : List ℕ) (ty at q : ℕ) (b : Bool) : Type 0 where
+  pub place : ℕ
+  pub tag : getD d (place * 2) 0 ≡ tagOf (q * 1024 + ty) b
+  pub past : getD d (place * 2 + 1) 0 ≡ at
 
 -- what node i remembers is true
 pub record Recalls (table places s : List ℕ) (i : ℕ) : Type 0 where
   pub is : (ty : ℕ) (b : Bool) → tagIn s i ≡ tagOf ty b → Supports table places ty (pastIn s i) s i b
 
--- so are all denials
-pub record Denials (table places s d : List ℕ) : Type 0 where
-  pub is : (ty q : ℕ) → DeniedIn d ty q → Supports table places ty 0 s q false
+-- so is what the list has (of the types that a table can have)
+pub record Listed (table places s d : List ℕ) : Type 0 where
+  pub is : (ty at q : ℕ) (b : Bool) → ty < 1024 → In d ty at q b → Supports table places ty at s q b
 
 -- and what the nodes of the usage at record q remember
 pub record Memory (table places s : List ℕ) (q : ℕ) (d : List ℕ) : Type 0 where
   pub nodes : (i : ℕ) → q ≤ i → i < q + countIn s q → Recalls table places s i
-  pub types : Denials table places s d
+  pub list : Listed table places s d
 
 -- a question changes what is remembered and nothing else, and what is true stays so
 pub record Kept (table places s s′ d d′ : List ℕ) : Type 0 where
   pub records : Unchanged s s′
   pub nodes : (i : ℕ) → Recalls table places s i → Recalls table places s′ i
-  pub types : Denials table places s d → Denials table places s′ d′
+  pub list : Listed table places s d → Listed table places s′ d′
 
 -- What the functions say
 
@@ -70,22 +73,29 @@ pub record Marks (ty at : ℕ) (s : List ℕ) (q : ℕ) (b : Bool) : Type 0 wher
   pub tag : tagIn s q ≡ tagOf ty b
   pub past : pastIn s q ≡ at
 
+abbrev pub looksUp : ℕ → ℕ → ℕ → List ℕ → Recalled → Type 0
+looksUp ty at q d Nothing = Unit {0}
+looksUp ty at q d WasNo = In d ty at q false
+looksUp ty at q d WasYes = In d ty at q true
+
+pub record LooksUp (ty at q : ℕ) (d : List ℕ) (r : Recalled) : Type 0 where
+  pub is : looksUp ty at q d r
+
 abbrev pub recollects : ℕ → ℕ → List ℕ → ℕ → List ℕ → Recalled → Type 0
 recollects ty at s q d Nothing = Unit {0}
-recollects ty at s q d WasNo = Marks ty at s q false
-recollects ty at s q d WasYes = Marks ty at s q true
-recollects ty at s q d WasDenied = (at ≡ 0) × DeniedIn d ty q
+recollects ty at s q d WasNo = Marks ty at s q false ⊎ In d ty at q false
+recollects ty at s q d WasYes = Marks ty at s q true ⊎ In d ty at q true
 
 pub record Recollects (ty at : ℕ) (s : List ℕ) (q : ℕ) (d : List ℕ) (r : Recalled) : Type 0 where
   pub is : recollects ty at s q d r
 
--- no node but q is denied newly, and by no other type
-pub record Denies (d d′ : List ℕ) (ty q : ℕ) : Type 0 where
-  pub others : (t i : ℕ) → ((t ≡ ty) × (i ≡ q) → ⊥) → DeniedIn d′ t i → DeniedIn d t i
+-- the list has this answer, or nothing, that it did not have
+pub record Keeps (d d′ : List ℕ) (ty at q : ℕ) (b : Bool) : Type 0 where
+  pub each : (t o i : ℕ) (c : Bool) → t < 1024 → In d′ t o i c → In d t o i c ⊎ ((t ≡ ty) × (o ≡ at) × (i ≡ q) × (c ≡ b))
 
 pub record Remembers (ty at : ℕ) (s s′ : List ℕ) (q : ℕ) (d d′ : List ℕ) (b : Bool) : Type 0 where
   pub node : Marked s s′ q (tagOf ty b) at
-  pub others : (t i : ℕ) → ((t ≡ ty) × (i ≡ q) × (at ≡ 0) × (b ≡ false) → ⊥) → DeniedIn d′ t i → DeniedIn d t i
+  pub list : Keeps d d′ ty at q b
 
 -- the nodes of the usage at record q remember nothing
 pub record Blank (s : List ℕ) (q : ℕ) : Type 0 where

@@ -9,7 +9,7 @@ ghost use Rattle.qptr.specs.Values.{sizeOf};
 ghost use Rattle.records.specs.Records.{commandIn, countIn};
 ghost use Rattle.support.specs.Known.{ConcreteType, Askable, ConcreteAskable, ComponentsOf, Stands, Unchanged};
 ghost use Rattle.support.specs.Answers.{WholeLeaf, Supports, ComponentSupports, EntrySupported, EntriesSupported, ElementsSupported, ItselfSupports, Answers};
-ghost use Rattle.support.specs.Memory.{DeniedIn, Memory, Kept, LeftOpen, FirstSays, Recollects, Denies, Remembers, Blank, Forgotten};
+ghost use Rattle.support.specs.Memory.{tagOf, Memory, Kept, LeftOpen, FirstSays, LooksUp, Recollects, Keeps, Remembers, Blank, Forgotten};
 use layout::Components;
 use layout::Containing;
 use layout::TypeLayout;
@@ -29,8 +29,10 @@ use records::tag;
 // The last number of 32 bits.
 const MAX: u32 = 4294967295;
 
-// A list of denials has a place for each type.
-const DENIALS: usize = 1024;
+// The words of a list of answers, two for each: where few questions can be asked, and else.
+const FEW: usize = 512;
+
+const MANY: usize = 8192;
 
 // What the first tests say: an answer, or that the components are asked, and then the usage itself.
 enum First {
@@ -39,12 +41,11 @@ enum First {
     Open,
 }
 
-// What is remembered of a question: by the node that it was about, or, of a denial at offset 0, by the type too.
+// What is remembered of a question.
 enum Recalled {
     Nothing,
     No,
     Yes,
-    Denied,
 }
 
 // Is a usage of this size, at this offset, dynamic or past the layout's size?
@@ -131,64 +132,95 @@ fn first_tests(table: &[u8], places: &[u32], ty: u32, at: u32, s: &[u8], q: usiz
     }
 }
 
-// Was this node the last that the type denied at offset 0?
-fn is_denied(denials: &[u32], ty: u32, q: usize) -> bool
-    requires { ⌜ (ty < 1024) × (q < 65536) ⌝ }
-    ensures { λ r. ⌜ (r ≡ true → DeniedIn (now (denials .entry)) ty q) ⌝ }
+// A number, and one more for no or two for yes. 0 is no tag.
+fn tag_of(k: u32, yes: bool) -> u32
+    requires { ⌜ k < 134217728 ⌝ }
+    ensures { λ r. ⌜ r ≡ tagOf k yes ⌝ }
 {
-    let i = ty as usize;
-    if denials.len() <= i {
-        return false;
+    if yes {
+        return k * 2 + 2;
     }
-    denials[i] == q as u32 + 1
+    k * 2 + 1
 }
 
-fn deny(denials: &mut [u32], ty: u32, q: usize)
+// A node of the usage and a type of the table in one number.
+fn node_and_type(ty: u32, q: usize) -> u32
     requires { ⌜ (ty < 1024) × (q < 65536) ⌝ }
-    ensures { λ r. ⌜ Denies (now (denials .entry)) (now (denials .exit)) ty q ⌝ }
+    ensures { λ r. ⌜ (r ≡ q * 1024 + ty) × (r < 134217728) ⌝ }
 {
-    let i = ty as usize;
-    if denials.len() <= i {
-        return;
-    }
-    denials[i] = q as u32 + 1;
+    q as u32 * 1024 + ty
 }
 
-// A node remembers the last question that went past the first tests: the type doubled, and one more for no or two for yes, and
-// the offset. A tag of 0 is nothing.
-fn recall(ty: u32, at: u32, s: &[u8], q: usize, denials: &[u32]) -> Recalled
-    requires { ⌜ (ty < 1024) × (q < 65536) × (q * 32 + 32 ≤ length (now s)) ⌝ }
-    ensures { λ r. ⌜ Recollects ty at (now (s .entry)) q (now (denials .entry)) r ⌝ }
+// Which of n places in a list a question has. Any would do; these lie far apart for questions that follow each other.
+fn slot(k: u32, at: u32, n: usize) -> usize
+    requires { ⌜ (k < 134217728) × (0 < n) ⌝ }
+    ensures { λ r. ⌜ r < n ⌝ }
 {
-    if past(s, q) == at {
-        let t = tag(s, q);
-        if t == ty * 2 + 1 {
-            return Recalled::No;
-        }
-        if t == ty * 2 + 2 {
-            return Recalled::Yes;
-        }
+    ((k as u64 * 2654435769 / 65536 + at as u64 * 97) % n as u64) as usize
+}
+
+// What a list has of a question.
+fn look_up(answers: &[u32], ty: u32, at: u32, q: usize) -> Recalled
+    requires { ⌜ (ty < 1024) × (q < 65536) ⌝ }
+    ensures { λ r. ⌜ LooksUp ty at q (now (answers .entry)) r ⌝ }
+{
+    let n = answers.len() / 2;
+    if n == 0 {
+        return Recalled::Nothing;
     }
-    if at == 0 {
-        if is_denied(denials, ty, q) {
-            return Recalled::Denied;
-        }
+    let k = node_and_type(ty, q);
+    let i = slot(k, at, n) * 2;
+    if answers[i + 1] != at {
+        return Recalled::Nothing;
+    }
+    let t = answers[i];
+    if t == tag_of(k, false) {
+        return Recalled::No;
+    }
+    if t == tag_of(k, true) {
+        return Recalled::Yes;
     }
     Recalled::Nothing
 }
 
-fn remember(ty: u32, at: u32, s: &mut [u8], q: usize, denials: &mut [u32], yes: bool)
-    requires { ⌜ (ty < 1024) × (q < 65536) × (q * 32 + 32 ≤ length (now s)) ⌝ }
-    ensures { λ r. ⌜ Remembers ty at (now (s .entry)) (now (s .exit)) q (now (denials .entry)) (now (denials .exit)) yes ⌝ }
+// An answer is put into a list, over what has its place.
+fn keep(answers: &mut [u32], ty: u32, at: u32, q: usize, yes: bool)
+    requires { ⌜ (ty < 1024) × (q < 65536) ⌝ }
+    ensures { λ r. ⌜ Keeps (now (answers .entry)) (now (answers .exit)) ty at q yes ⌝ }
 {
-    if yes {
-        put_mark(s, q, ty * 2 + 2, at);
+    let n = answers.len() / 2;
+    if n == 0 {
         return;
     }
-    put_mark(s, q, ty * 2 + 1, at);
-    if at == 0 {
-        deny(denials, ty, q);
+    let k = node_and_type(ty, q);
+    let i = slot(k, at, n) * 2;
+    answers[i] = tag_of(k, yes);
+    answers[i + 1] = at;
+}
+
+// A node remembers the last question that went past the first tests, the type as its tag and the offset; others may be in the list.
+fn recall(ty: u32, at: u32, s: &[u8], q: usize, answers: &[u32]) -> Recalled
+    requires { ⌜ (ty < 1024) × (q < 65536) × (q * 32 + 32 ≤ length (now s)) ⌝ }
+    ensures { λ r. ⌜ Recollects ty at (now (s .entry)) q (now (answers .entry)) r ⌝ }
+{
+    if past(s, q) == at {
+        let t = tag(s, q);
+        if t == tag_of(ty, false) {
+            return Recalled::No;
+        }
+        if t == tag_of(ty, true) {
+            return Recalled::Yes;
+        }
     }
+    look_up(answers, ty, at, q)
+}
+
+fn remember(ty: u32, at: u32, s: &mut [u8], q: usize, answers: &mut [u32], yes: bool)
+    requires { ⌜ (ty < 1024) × (q < 65536) × (q * 32 + 32 ≤ length (now s)) ⌝ }
+    ensures { λ r. ⌜ Remembers ty at (now (s .entry)) (now (s .exit)) q (now (answers .entry)) (now (answers .exit)) yes ⌝ }
+{
+    put_mark(s, q, tag_of(ty, yes), at);
+    keep(answers, ty, at, q, yes);
 }
 
 // Is record q a usage of fixed size 0, and not Unused?
@@ -204,6 +236,20 @@ fn is_empty(s: &[u8], q: usize) -> bool
     }
 }
 
+// Can the same questions about record i, of the usage at record q, come back in turns? They can where one question leads to several:
+// for a usage of size 0, which many components contain, and for maps and arrays inside of others, whose offsets differ by the way.
+fn is_asked_in_turns(s: &[u8], q: usize, i: usize) -> bool
+    requires { ⌜ i * 32 + 32 ≤ length (now s) ⌝ }
+{
+    if is_empty(s, i) {
+        return true;
+    }
+    if i == q {
+        return false;
+    }
+    3 <= command(s, i)
+}
+
 fn either(a: bool, b: bool) -> bool {
     if a {
         return true;
@@ -211,20 +257,20 @@ fn either(a: bool, b: bool) -> bool {
     b
 }
 
-// The usage at record q remembers nothing. Is one of its nodes of size 0?
+// The usage at record q remembers nothing. Is a list of answers worth its cost?
 fn forget(s: &mut [u8], q: usize) -> bool
     requires { ⌜ Stands (now s) q ⌝ }
     ensures { λ r. ⌜ Forgotten (now (s .entry)) (now (s .exit)) q ⌝ }
 {
     let end = q + nodes(s, q);
-    let mut empty = false;
+    let mut listed = false;
     let mut i = q;
     while i < end {
         put_mark(s, i, 0, 0);
-        empty = either(empty, is_empty(s, i));
+        listed = either(listed, is_asked_in_turns(s, q, i));
         i = i + 1;
     }
-    empty
+    listed
 }
 
 // Does some component that contains the usage at record q support it at the remaining offset?
@@ -235,12 +281,12 @@ fn any_component_supports(
     at: u32,
     s: &mut [u8],
     q: usize,
-    denials: &mut [u32],
+    answers: &mut [u32],
 ) -> bool
     requires { ⌜ ConcreteAskable (now table) (now places) ty (now s) q ⌝ }
-    requires { ⌜ Memory (now table) (now places) (now s) q (now denials) ⌝ }
+    requires { ⌜ Memory (now table) (now places) (now s) q (now answers) ⌝ }
     ensures { λ r. ⌜ ComponentSupports (now (table .entry)) (now (places .entry)) ty at (now (s .entry)) q r ⌝ }
-    ensures { λ r. ⌜ Kept (now (table .entry)) (now (places .entry)) (now (s .entry)) (now (s .exit)) (now (denials .entry)) (now (denials .exit)) ⌝ }
+    ensures { λ r. ⌜ Kept (now (table .entry)) (now (places .entry)) (now (s .entry)) (now (s .exit)) (now (answers .entry)) (now (answers .exit)) ⌝ }
 {
     let end = end_of(at, max_size(s, q));
     let mut from = 0;
@@ -254,7 +300,7 @@ fn any_component_supports(
                 rest,
                 next,
             } => {
-                if supports_inside(&*table, &*places, component, rest, s, q, denials) {
+                if supports_inside(&*table, &*places, component, rest, s, q, answers) {
                     return true;
                 }
                 from = next;
@@ -271,18 +317,18 @@ fn entries_supported(
     at: u32,
     s: &mut [u8],
     q: usize,
-    denials: &mut [u32],
+    answers: &mut [u32],
 ) -> bool
     requires { ⌜ ConcreteAskable (now table) (now places) ty (now s) q ⌝ }
-    requires { ⌜ Memory (now table) (now places) (now s) q (now denials) ⌝ }
+    requires { ⌜ Memory (now table) (now places) (now s) q (now answers) ⌝ }
     requires { ⌜ commandIn (now s) q ≡ 3 ⌝ }
     ensures { λ r. ⌜ EntriesSupported (now (table .entry)) (now (places .entry)) ty at (now (s .entry)) q r ⌝ }
-    ensures { λ r. ⌜ Kept (now (table .entry)) (now (places .entry)) (now (s .entry)) (now (s .exit)) (now (denials .entry)) (now (denials .exit)) ⌝ }
+    ensures { λ r. ⌜ Kept (now (table .entry)) (now (places .entry)) (now (s .entry)) (now (s .exit)) (now (answers .entry)) (now (answers .exit)) ⌝ }
 {
     let end = q + nodes(s, q);
     let mut e = q + 1;
     while e < end {
-        if !entry_supported(&*table, &*places, ty, at, s, e, denials) {
+        if !entry_supported(&*table, &*places, ty, at, s, e, answers) {
             return false;
         }
         e = e + nodes(s, e);
@@ -298,12 +344,12 @@ fn entry_supported(
     at: u32,
     s: &mut [u8],
     e: usize,
-    denials: &mut [u32],
+    answers: &mut [u32],
 ) -> bool
     requires { ⌜ ConcreteAskable (now table) (now places) ty (now s) e ⌝ }
-    requires { ⌜ Memory (now table) (now places) (now s) e (now denials) ⌝ }
+    requires { ⌜ Memory (now table) (now places) (now s) e (now answers) ⌝ }
     ensures { λ r. ⌜ EntrySupported (now (table .entry)) (now (places .entry)) ty at (now (s .entry)) e r ⌝ }
-    ensures { λ r. ⌜ Kept (now (table .entry)) (now (places .entry)) (now (s .entry)) (now (s .exit)) (now (denials .entry)) (now (denials .exit)) ⌝ }
+    ensures { λ r. ⌜ Kept (now (table .entry)) (now (places .entry)) (now (s .entry)) (now (s .exit)) (now (answers .entry)) (now (answers .exit)) ⌝ }
 {
     let o = offset(s, e);
     if MAX - at < o {
@@ -311,9 +357,9 @@ fn entry_supported(
     }
     let sum = at + o;
     if sum == 0 {
-        return supports_inside(&*table, &*places, ty, 0, s, e, denials);
+        return supports_inside(&*table, &*places, ty, 0, s, e, answers);
     }
-    any_component_supports(&*table, &*places, ty, sum, s, e, denials)
+    any_component_supports(&*table, &*places, ty, sum, s, e, answers)
 }
 
 // Do elements of this stride, type and length support the array at record q? Its stride has to be theirs.
@@ -326,13 +372,13 @@ fn elements_supported(
     at: u32,
     s: &mut [u8],
     q: usize,
-    denials: &mut [u32],
+    answers: &mut [u32],
 ) -> bool
     requires { ⌜ Askable (now table) (now places) elem (now s) q ⌝ }
-    requires { ⌜ Memory (now table) (now places) (now s) q (now denials) ⌝ }
+    requires { ⌜ Memory (now table) (now places) (now s) q (now answers) ⌝ }
     requires { ⌜ (0 < stride) × (commandIn (now s) q ≡ 4) ⌝ }
     ensures { λ r. ⌜ ElementsSupported (now (table .entry)) (now (places .entry)) stride elem len at (now (s .entry)) q r ⌝ }
-    ensures { λ r. ⌜ Kept (now (table .entry)) (now (places .entry)) (now (s .entry)) (now (s .exit)) (now (denials .entry)) (now (denials .exit)) ⌝ }
+    ensures { λ r. ⌜ Kept (now (table .entry)) (now (places .entry)) (now (s .entry)) (now (s .exit)) (now (answers .entry)) (now (answers .exit)) ⌝ }
 {
     if stride != argument(s, q) {
         return false;
@@ -343,7 +389,7 @@ fn elements_supported(
     if !same_length(stride, len, at, max_size(s, q)) {
         return false;
     }
-    supports_inside(&*table, &*places, elem, 0, s, q + 1, denials)
+    supports_inside(&*table, &*places, elem, 0, s, q + 1, answers)
 }
 
 // The components of a concrete layout.
@@ -366,17 +412,17 @@ fn itself_supports(
     at: u32,
     s: &mut [u8],
     q: usize,
-    denials: &mut [u32],
+    answers: &mut [u32],
 ) -> bool
     requires { ⌜ ConcreteAskable (now table) (now places) ty (now s) q ⌝ }
-    requires { ⌜ Memory (now table) (now places) (now s) q (now denials) ⌝ }
+    requires { ⌜ Memory (now table) (now places) (now s) q (now answers) ⌝ }
     requires { ⌜ (commandIn (now s) q ≡ 0 → ⊥) ⌝ }
     ensures { λ r. ⌜ ItselfSupports (now (table .entry)) (now (places .entry)) ty at (now (s .entry)) q r ⌝ }
-    ensures { λ r. ⌜ Kept (now (table .entry)) (now (places .entry)) (now (s .entry)) (now (s .exit)) (now (denials .entry)) (now (denials .exit)) ⌝ }
+    ensures { λ r. ⌜ Kept (now (table .entry)) (now (places .entry)) (now (s .entry)) (now (s .exit)) (now (answers .entry)) (now (answers .exit)) ⌝ }
 {
     let kind = command(s, q);
     if kind == 3 {
-        return entries_supported(&*table, &*places, ty, at, s, q, denials);
+        return entries_supported(&*table, &*places, ty, at, s, q, answers);
     }
     if kind != 4 {
         return false;
@@ -385,7 +431,7 @@ fn itself_supports(
         Components::Scalar => false,
         Components::Fields { .. } => false,
         Components::Elements { stride, elem, len } => {
-            elements_supported(&*table, &*places, stride, elem, len, at, s, q, denials)
+            elements_supported(&*table, &*places, stride, elem, len, at, s, q, answers)
         }
     }
 }
@@ -398,18 +444,18 @@ fn supports_past_tests(
     at: u32,
     s: &mut [u8],
     q: usize,
-    denials: &mut [u32],
+    answers: &mut [u32],
 ) -> bool
     requires { ⌜ Askable (now table) (now places) ty (now s) q ⌝ }
-    requires { ⌜ Memory (now table) (now places) (now s) q (now denials) ⌝ }
+    requires { ⌜ Memory (now table) (now places) (now s) q (now answers) ⌝ }
     requires { ⌜ LeftOpen (now table) (now places) ty at (now s) q ⌝ }
     ensures { λ r. ⌜ Supports (now (table .entry)) (now (places .entry)) ty at (now (s .entry)) q r ⌝ }
-    ensures { λ r. ⌜ Kept (now (table .entry)) (now (places .entry)) (now (s .entry)) (now (s .exit)) (now (denials .entry)) (now (denials .exit)) ⌝ }
+    ensures { λ r. ⌜ Kept (now (table .entry)) (now (places .entry)) (now (s .entry)) (now (s .exit)) (now (answers .entry)) (now (answers .exit)) ⌝ }
 {
-    if any_component_supports(&*table, &*places, ty, at, s, q, denials) {
+    if any_component_supports(&*table, &*places, ty, at, s, q, answers) {
         return true;
     }
-    itself_supports(&*table, &*places, ty, at, s, q, denials)
+    itself_supports(&*table, &*places, ty, at, s, q, answers)
 }
 
 // What the first tests leave open inside of another question is recalled, or asked and remembered.
@@ -420,21 +466,20 @@ fn supports_or_recalls(
     at: u32,
     s: &mut [u8],
     q: usize,
-    denials: &mut [u32],
+    answers: &mut [u32],
 ) -> bool
     requires { ⌜ Askable (now table) (now places) ty (now s) q ⌝ }
-    requires { ⌜ Memory (now table) (now places) (now s) q (now denials) ⌝ }
+    requires { ⌜ Memory (now table) (now places) (now s) q (now answers) ⌝ }
     requires { ⌜ LeftOpen (now table) (now places) ty at (now s) q ⌝ }
     ensures { λ r. ⌜ Supports (now (table .entry)) (now (places .entry)) ty at (now (s .entry)) q r ⌝ }
-    ensures { λ r. ⌜ Kept (now (table .entry)) (now (places .entry)) (now (s .entry)) (now (s .exit)) (now (denials .entry)) (now (denials .exit)) ⌝ }
+    ensures { λ r. ⌜ Kept (now (table .entry)) (now (places .entry)) (now (s .entry)) (now (s .exit)) (now (answers .entry)) (now (answers .exit)) ⌝ }
 {
-    match recall(ty, at, s, q, denials) {
+    match recall(ty, at, s, q, answers) {
         Recalled::No => false,
-        Recalled::Denied => false,
         Recalled::Yes => true,
         Recalled::Nothing => {
-            let yes = supports_past_tests(&*table, &*places, ty, at, s, q, denials);
-            remember(ty, at, s, q, denials, yes);
+            let yes = supports_past_tests(&*table, &*places, ty, at, s, q, answers);
+            remember(ty, at, s, q, answers, yes);
             yes
         }
     }
@@ -448,30 +493,58 @@ fn supports_inside(
     at: u32,
     s: &mut [u8],
     q: usize,
-    denials: &mut [u32],
+    answers: &mut [u32],
 ) -> bool
     requires { ⌜ Askable (now table) (now places) ty (now s) q ⌝ }
-    requires { ⌜ Memory (now table) (now places) (now s) q (now denials) ⌝ }
+    requires { ⌜ Memory (now table) (now places) (now s) q (now answers) ⌝ }
     ensures { λ r. ⌜ Supports (now (table .entry)) (now (places .entry)) ty at (now (s .entry)) q r ⌝ }
-    ensures { λ r. ⌜ Kept (now (table .entry)) (now (places .entry)) (now (s .entry)) (now (s .exit)) (now (denials .entry)) (now (denials .exit)) ⌝ }
+    ensures { λ r. ⌜ Kept (now (table .entry)) (now (places .entry)) (now (s .entry)) (now (s .exit)) (now (answers .entry)) (now (answers .exit)) ⌝ }
 {
     match first_tests(&*table, &*places, ty, at, s, q) {
         First::No => false,
         First::Yes => true,
-        First::Open => { supports_or_recalls(&*table, &*places, ty, at, s, q, denials) }
+        First::Open => { supports_or_recalls(&*table, &*places, ty, at, s, q, answers) }
     }
 }
 
-// A usage with nodes of size 0, which many components contain at once.
-fn supports_empty(table: &[u8], places: &[u32], ty: u32, at: u32, s: &mut [u8], q: usize) -> bool
+// Does a short list have a place for each node of the usage at record q and each type that can be asked, up to ty?
+fn asks_few(s: &[u8], q: usize, ty: u32) -> bool
+    requires { ⌜ q * 32 + 32 ≤ length (now s) ⌝ }
+{
+    if 16 < nodes(s, q) {
+        return false;
+    }
+    ty < 16
+}
+
+// With a list of answers, short or long.
+fn supports_with_few(table: &[u8], places: &[u32], ty: u32, at: u32, s: &mut [u8], q: usize) -> bool
     requires { ⌜ Askable (now table) (now places) ty (now s) q ⌝ }
     requires { ⌜ Blank (now s) q ⌝ }
     requires { ⌜ LeftOpen (now table) (now places) ty at (now s) q ⌝ }
     ensures { λ r. ⌜ Supports (now (table .entry)) (now (places .entry)) ty at (now (s .entry)) q r ⌝ }
     ensures { λ r. ⌜ Unchanged (now (s .entry)) (now (s .exit)) ⌝ }
 {
-    let mut denials = [0u32; DENIALS];
-    supports_past_tests(&*table, &*places, ty, at, s, q, &mut denials)
+    let mut answers = [0u32; FEW];
+    supports_past_tests(&*table, &*places, ty, at, s, q, &mut answers)
+}
+
+fn supports_with_many(
+    table: &[u8],
+    places: &[u32],
+    ty: u32,
+    at: u32,
+    s: &mut [u8],
+    q: usize,
+) -> bool
+    requires { ⌜ Askable (now table) (now places) ty (now s) q ⌝ }
+    requires { ⌜ Blank (now s) q ⌝ }
+    requires { ⌜ LeftOpen (now table) (now places) ty at (now s) q ⌝ }
+    ensures { λ r. ⌜ Supports (now (table .entry)) (now (places .entry)) ty at (now (s .entry)) q r ⌝ }
+    ensures { λ r. ⌜ Unchanged (now (s .entry)) (now (s .exit)) ⌝ }
+{
+    let mut answers = [0u32; MANY];
+    supports_past_tests(&*table, &*places, ty, at, s, q, &mut answers)
 }
 
 // Does the type support the usage at record q, at this offset? What its nodes remember of other questions is forgotten first.
@@ -491,11 +564,14 @@ pub fn supports_usage_at_offset(
         First::No => false,
         First::Yes => true,
         First::Open => {
-            if forget(s, q) {
-                return supports_empty(&*table, &*places, ty, at, s, q);
+            if !forget(s, q) {
+                let mut answers = [0u32; 1];
+                return supports_past_tests(&*table, &*places, ty, at, s, q, &mut answers);
             }
-            let mut denials = [0u32; 1];
-            supports_past_tests(&*table, &*places, ty, at, s, q, &mut denials)
+            if asks_few(s, q, ty) {
+                return supports_with_few(&*table, &*places, ty, at, s, q);
+            }
+            supports_with_many(&*table, &*places, ty, at, s, q)
         }
     }
 }

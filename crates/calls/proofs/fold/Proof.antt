@@ -1,25 +1,18 @@
--- `fold` meets its contract: the refusals come in their order, the nodes that are folded are the list's, and what is promised of sound
--- nodes follows from what the call is defined to give.
+-- `fold` meets its contract: the places that it lends have room, and the served call gives what it gives.
 -- Assumes nothing.
-use native.Mathlib.Omega.{arith}
-use lib.ListN.{length}
 use borrow.Author.Needs.{needs}
-use Rattle.calls.proofs.FoldCalls.{fold-refused, fold-ready, fold-reached, fold-given}
-use Rattle.calls.proofs.Promises.{with-promise}
+use Rattle.calls.proofs.Lending.{few-lent}
 use Rattle.calls.proofs.fold.Statement.{statement}
 use Rattle.calls.proofs.fold.Tie as tie
 
-slice-aggregate-accept : tie.Need-slice-aggregate-accept
-slice-aggregate-accept c = search needs
+has-few-requires : tie.Need-has-few-requires
+has-few-requires c κs = search needs
 
-list-requires : tie.Need-list-requires
-list-requires c κs = search needs
+slice-aggregate-fold : tie.Need-slice-aggregate-fold
+slice-aggregate-fold c = search needs
 
-accept-requires : tie.Need-accept-requires
-accept-requires c κs = search needs
-
-refuse-requires : tie.Need-refuse-requires
-refuse-requires c κs = search needs
+fold-requires : tie.Need-fold-requires
+fold-requires c κs = search (few-lent, needs)
 
 same-length : tie.Need-same-length
 same-length c = search needs
@@ -27,32 +20,17 @@ same-length c = search needs
 same-length-2 : tie.Need-same-length-2
 same-length-2 c = search needs
 
-returns : tie.Need-returns
-returns c =
-    let accept = c .before .before .before .before .before .before .before in
-    let a = accept .before .before .before .before .before .before .before .before .before .args in
-    let output = a .output .now in
-    let n = length (a .rep .now) in
-    with-promise (a .table .now) (length (a .work .now)) (a .list .now) output n
-    (fold-refused (a .table .now) (length (a .work .now)) (a .list .now) (rw (accept .before .list .ensures) at (accept .accept .ensures)) output n (c .before .before .before .before .if1 .taken) (c .before .before .refuse .ensures))
-
-slice-aggregate-fold-nodes : tie.Need-slice-aggregate-fold-nodes
-slice-aggregate-fold-nodes c = search needs
-
-fold-nodes-requires : tie.Need-fold-nodes-requires
-fold-nodes-requires c κs =
-    let accept = c .before .before .before .before .before .before in
-    let a = accept .before .before .before .before .before .before .before .before .before .args in
-    fold-ready (a .table .now) (length (a .work .now)) (a .list .now) (rw (accept .before .list .ensures) at (accept .accept .ensures)) (c .before .before .before .if1 .left) (λ i. accept .before .before .before .before .before .before .shared-slice-known2 .given i .fits) (omega arith)
-
-finish-requires : tie.Need-finish-requires
-finish-requires c κs =
-    let accept = c .before .before .before .before .before .before .before .before .before .before .before .before .before .before in
-    let a = accept .before .before .before .before .before .before .before .before .before .args in
-    fold-reached (a .table .now) (length (a .work .now)) (a .list .now) (rw (accept .before .list .ensures) at (accept .accept .ensures)) (c .before .before .before .before .before .before .before .before .before .before .before .if1 .left) (λ i. accept .before .before .before .before .before .before .shared-slice-known2 .given i .fits) (c .before .before .before .before .before .before .before .fold-nodes .ensures)
-
 same-length-3 : tie.Need-same-length-3
 same-length-3 c = search needs
+
+returns : tie.Need-returns
+returns c = search needs
+
+slice-aggregate-fold-2 : tie.Need-slice-aggregate-fold-2
+slice-aggregate-fold-2 c = search needs
+
+fold-requires-2 : tie.Need-fold-requires-2
+fold-requires-2 c κs = search needs
 
 same-length-4 : tie.Need-same-length-4
 same-length-4 c = search needs
@@ -60,30 +38,26 @@ same-length-4 c = search needs
 same-length-5 : tie.Need-same-length-5
 same-length-5 c = search needs
 
+same-length-6 : tie.Need-same-length-6
+same-length-6 c = search needs
+
 returns-2 : tie.Need-returns-2
-returns-2 c =
-    let accept = c .before .before .before .before .before .before .before .before .before .before .before .before .before .before .before .before .before .before .before in
-    let a = accept .before .before .before .before .before .before .before .before .before .args in
-    let output = a .output .now in
-    let n = length (a .rep .now) in
-    with-promise (a .table .now) (length (a .work .now)) (a .list .now) output n
-    (fold-given (a .table .now) (length (a .work .now)) (a .list .now) (rw (accept .before .list .ensures) at (accept .accept .ensures)) (c .before .before .before .before .before .before .before .before .before .before .before .before .before .before .before .before .if1 .left) (λ i. accept .before .before .before .before .before .before .shared-slice-known2 .given i .fits) (c .before .before .before .before .before .before .before .before .before .before .before .before .fold-nodes .ensures) output n (omega arith) (c .before .before .before .before .finish .ensures))
+returns-2 c = search needs
 
 pub fold-spec : {M : Type 1} → statement M
 fold-spec =
     tie.close
     (tie.spec
-    slice-aggregate-accept
-    list-requires
-    accept-requires
-    refuse-requires
+    has-few-requires
+    slice-aggregate-fold
+    fold-requires
     same-length
     same-length-2
-    returns
-    slice-aggregate-fold-nodes
-    fold-nodes-requires
-    finish-requires
     same-length-3
+    returns
+    slice-aggregate-fold-2
+    fold-requires-2
     same-length-4
     same-length-5
+    same-length-6
     returns-2)

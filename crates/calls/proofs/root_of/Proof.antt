@@ -1,7 +1,7 @@
 -- `root_of` meets its contract: a Memory is read behind its first byte, and so is its root's own part.
 -- Assumes nothing.
 use borrow.Author.Needs.{needs}
-use Rattle.calls.proofs.Memories.{Memory, found, lost}
+use Rattle.serving.proofs.Memories.{Memory, found, lost}
 use Rattle.calls.proofs.Roots.{root-part, root-none}
 use Rattle.calls.proofs.root_of.Statement.{statement}
 use Rattle.calls.proofs.root_of.Tie as tie

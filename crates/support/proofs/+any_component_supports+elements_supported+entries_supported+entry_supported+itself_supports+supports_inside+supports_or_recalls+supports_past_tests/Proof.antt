@@ -20,7 +20,7 @@ use Rattle.support.proofs.Elements.{other-stride, between-elements, oth
 use Rattle.support.proofs.Itself.{by-entries, not-by-leaf, not-by-scalar, not-by-fields, element-known, asks-elements, by-elements}
 use Rattle.support.proofs.Rules.{first-no, first-yes, first-open, part-supported, itself-asked}
 use Rattle.support.proofs.Staying.{unchanged-both, count-stays, supports-after, supports-before, entry-before, itself-before, open-after, asks-after, concrete-after}
-use Rattle.support.proofs.Remembering.{Turned, turned-none, turned-more, kept-none, kept-both, memory-after, memory-part, element-memory, recalled-no, recalled-yes, recalled-denied, remembered-kept}
+use Rattle.support.proofs.Remembering.{Turned, turned-none, turned-more, kept-none, kept-both, memory-after, memory-part, element-memory, recalled-no, recalled-yes, remembered-kept}
 use Rattle.support.proofs.Marking.{type-few, node-few}
 use Rattle.support.proofs.any_component_supports.Reads as any
 use Rattle.support.proofs.any_component_supports.Kinds as any-kinds
@@ -143,10 +143,10 @@ abbrev any-claims : ℕ → any-lts.Claims
 any-claims t = (max-size-reads.Asked, max-size-reads.Learnt, end-of-reads.Asked, end-of-reads.Learnt, find-components-containing-reads.Asked, find-components-containing-reads.Learnt, inside-below t, inside.Post)
 
 abbrev any-Inv-loop : any-lts.InvT-loop
-any-Inv-loop table places ty at s₀ q denials₀ end from₀ s denials from = AskedFrom table places ty at s₀ q end from × Turned table places s₀ s denials₀ denials
+any-Inv-loop table places ty at s₀ q answers₀ end from₀ s answers from = AskedFrom table places ty at s₀ q end from × Turned table places s₀ s answers₀ answers
 
 abbrev any-μ-loop : any-lts.MeasureT-loop
-any-μ-loop table places ty at s₀ q denials₀ end from₀ s denials from = 18446744073709551616 - from
+any-μ-loop table places ty at s₀ q answers₀ end from₀ s answers from = 18446744073709551616 - from
 
 any-max-size-requires : (t : ℕ) → any-lts.Need-max-size-requires (any-claims t) (any-at t) any.Post any-Inv-loop any-μ-loop
 any-max-size-requires t c κs = search (room, needs)
@@ -265,10 +265,10 @@ abbrev entries-claims : ℕ → entries-lts.Claims
 entries-claims t = (nodes-reads.Asked, nodes-reads.Learnt, entry-below t, entry.Post)
 
 abbrev entries-Inv-loop : entries-lts.InvT-loop
-entries-Inv-loop table places ty at s₀ q denials₀ end e₀ s denials e = Walked table places ty at s₀ q e end × Turned table places s₀ s denials₀ denials
+entries-Inv-loop table places ty at s₀ q answers₀ end e₀ s answers e = Walked table places ty at s₀ q e end × Turned table places s₀ s answers₀ answers
 
 abbrev entries-μ-loop : entries-lts.MeasureT-loop
-entries-μ-loop table places ty at s₀ q denials₀ end e₀ s denials e = end - e
+entries-μ-loop table places ty at s₀ q answers₀ end e₀ s answers e = end - e
 
 entries-nodes-requires : (t : ℕ) → entries-lts.Need-nodes-requires (entries-claims t) (entries-at t) entries.Post entries-Inv-loop entries-μ-loop
 entries-nodes-requires t c κs = search (room, needs)
@@ -520,9 +520,6 @@ recalling-enum-told-2 t c = search needs
 recalling-enum-told-3 : (t : ℕ) → recalling-lts.Need-enum-told-3 (recalling-claims t) (recalling-at t) recalling.Post
 recalling-enum-told-3 t c = search needs
 
-recalling-enum-told-4 : (t : ℕ) → recalling-lts.Need-enum-told-4 (recalling-claims t) (recalling-at t) recalling.Post
-recalling-enum-told-4 t c = search needs
-
 recalling-supports-past-tests-requires : (t : ℕ) → recalling-lts.Need-supports-past-tests-requires (recalling-claims t) (recalling-at t) recalling.Post
 recalling-supports-past-tests-requires t c κs = (omega arith, c .before .before .before .before .before .before .before .before .before .before .before .pre .1)
 
@@ -538,7 +535,7 @@ recalling-same-length-2 : (t : ℕ) → recalling-lts.Need-same-length-2 (recall
 recalling-same-length-2 t c = search needs
 
 recalling-returns : (t : ℕ) → recalling-lts.Need-returns (recalling-claims t) (recalling-at t) recalling.Post
-recalling-returns t c = (recalled-no (c .before .before .before .before .before .before .before .before .before .pre .1 .1 .0) (c .before .before .before .before .before .before .before .before .before .pre .1 .0 .usage) (c .before .before .recall .ensures) (c .enum-told .given .1), kept-none)
+recalling-returns t c = (recalled-no (c .before .before .before .before .before .before .before .before .before .pre .1 .1 .0) (c .before .before .before .before .before .before .before .before .before .pre .1 .0 .usage) (type-few (c .before .before .before .before .before .before .before .before .before .pre .1 .0 .type)) (c .before .before .recall .ensures) (c .enum-told .given .1), kept-none)
 
 recalling-same-length-3 : (t : ℕ) → recalling-lts.Need-same-length-3 (recalling-claims t) (recalling-at t) recalling.Post
 recalling-same-length-3 t c = search needs
@@ -546,26 +543,17 @@ recalling-same-length-3 t c = search needs
 recalling-same-length-4 : (t : ℕ) → recalling-lts.Need-same-length-4 (recalling-claims t) (recalling-at t) recalling.Post
 recalling-same-length-4 t c = search needs
 
-recalling-returns-2 : (t : ℕ) → recalling-lts.Need-returns-2 (recalling-claims t) (recalling-at t) recalling.Post
-recalling-returns-2 t c = (recalled-denied (c .before .before .before .before .before .before .before .before .before .pre .1 .1 .0) (c .before .before .before .before .before .before .before .before .before .pre .1 .0 .usage) (c .before .before .recall .ensures) (c .enum-told2 .given .1), kept-none)
-
 recalling-same-length-5 : (t : ℕ) → recalling-lts.Need-same-length-5 (recalling-claims t) (recalling-at t) recalling.Post
 recalling-same-length-5 t c = search needs
 
 recalling-same-length-6 : (t : ℕ) → recalling-lts.Need-same-length-6 (recalling-claims t) (recalling-at t) recalling.Post
 recalling-same-length-6 t c = search needs
 
+recalling-returns-2 : (t : ℕ) → recalling-lts.Need-returns-2 (recalling-claims t) (recalling-at t) recalling.Post
+recalling-returns-2 t c = (recalled-yes (c .before .before .before .before .before .before .before .before .before .pre .1 .1 .0) (c .before .before .before .before .before .before .before .before .before .pre .1 .0 .usage) (type-few (c .before .before .before .before .before .before .before .before .before .pre .1 .0 .type)) (c .before .before .recall .ensures) (c .enum-told2 .given .1), kept-none)
+
 recalling-returns-3 : (t : ℕ) → recalling-lts.Need-returns-3 (recalling-claims t) (recalling-at t) recalling.Post
-recalling-returns-3 t c = (recalled-yes (c .before .before .before .before .before .before .before .before .before .pre .1 .1 .0) (c .before .before .before .before .before .before .before .before .before .pre .1 .0 .usage) (c .before .before .recall .ensures) (c .enum-told3 .given .1), kept-none)
-
-recalling-same-length-7 : (t : ℕ) → recalling-lts.Need-same-length-7 (recalling-claims t) (recalling-at t) recalling.Post
-recalling-same-length-7 t c = search needs
-
-recalling-same-length-8 : (t : ℕ) → recalling-lts.Need-same-length-8 (recalling-claims t) (recalling-at t) recalling.Post
-recalling-same-length-8 t c = search needs
-
-recalling-returns-4 : (t : ℕ) → recalling-lts.Need-returns-4 (recalling-claims t) (recalling-at t) recalling.Post
-recalling-returns-4 t c =
+recalling-returns-3 t c =
     let told = c .before .before .before .before .before .before .before .before .before .before .before .supports-past-tests .ensures in
     (told .0, kept-both (told .1) (remembered-kept (c .before .before .before .before .remember .ensures) (supports-after (told .1 .records) (told .0))))
 
@@ -621,6 +609,6 @@ pub +any-component-supports+elements-supported+entries-supported+entry-supported
     (λ t. inside-lts.spec (inside-claims t) (inside-at t) inside.Post
     (inside-first-tests-requires t) (inside-enum-told t) (inside-enum-told-2 t) (inside-enum-told-3 t) (inside-supports-or-recalls-requires t) (inside-same-length t) (inside-returns t) (inside-same-length-2 t) (inside-returns-2 t) (inside-same-length-3 t) (inside-same-length-4 t) (inside-returns-3 t))
     (λ t. recalling-lts.spec (recalling-claims t) (recalling-at t) recalling.Post
-    (recalling-recall-requires t) (recalling-enum-told t) (recalling-enum-told-2 t) (recalling-enum-told-3 t) (recalling-enum-told-4 t) (recalling-supports-past-tests-requires t) (recalling-remember-requires t) (recalling-same-length t) (recalling-same-length-2 t) (recalling-returns t) (recalling-same-length-3 t) (recalling-same-length-4 t) (recalling-returns-2 t) (recalling-same-length-5 t) (recalling-same-length-6 t) (recalling-returns-3 t) (recalling-same-length-7 t) (recalling-same-length-8 t) (recalling-returns-4 t))
+    (recalling-recall-requires t) (recalling-enum-told t) (recalling-enum-told-2 t) (recalling-enum-told-3 t) (recalling-supports-past-tests-requires t) (recalling-remember-requires t) (recalling-same-length t) (recalling-same-length-2 t) (recalling-returns t) (recalling-same-length-3 t) (recalling-same-length-4 t) (recalling-returns-2 t) (recalling-same-length-5 t) (recalling-same-length-6 t) (recalling-returns-3 t))
     (λ t. tested-lts.spec (tested-claims t) (tested-at t) tested.Post
     (tested-any-component-supports-requires t) (tested-same-length t) (tested-same-length-2 t) (tested-returns t) (tested-itself-supports-requires t) (tested-same-length-3 t) (tested-same-length-4 t) (tested-returns-2 t))

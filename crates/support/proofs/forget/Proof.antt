@@ -9,10 +9,10 @@ use Rattle.support.proofs.forget.Statement.{statement}
 use Rattle.support.proofs.forget.Tie as tie
 
 abbrev Inv-loop : tie.InvT-loop
-Inv-loop s₀ q end empty₀ i₀ s empty i = Cleared s₀ s q i
+Inv-loop s₀ q end listed₀ i₀ s listed i = Cleared s₀ s q i
 
 abbrev μ-loop : tie.MeasureT-loop
-μ-loop s₀ q end empty₀ i₀ s empty i = end - i
+μ-loop s₀ q end listed₀ i₀ s listed i = end - i
 
 nodes-requires : tie.Need-nodes-requires Inv-loop μ-loop
 nodes-requires c κs = search (room, needs)
@@ -26,8 +26,8 @@ loop-holds c = search (cleared-none, needs)
 put-mark-requires : tie.Need-put-mark-requires Inv-loop μ-loop
 put-mark-requires c κs = search (room-within, needs)
 
-is-empty-requires : tie.Need-is-empty-requires Inv-loop μ-loop
-is-empty-requires c κs = omega (arith, room-within (c .before .before .before .before .before .before .before .before .before .before .pre) (c .before .before .before .before .before .before .before .nodes .ensures) (c .before .before .before .before .before .before .loop .inv) (c .before .before .before .before .before .loop-test .taken))
+is-asked-in-turns-requires : tie.Need-is-asked-in-turns-requires Inv-loop μ-loop
+is-asked-in-turns-requires c κs = omega (arith, room-within (c .before .before .before .before .before .before .before .before .before .before .pre) (c .before .before .before .before .before .before .before .nodes .ensures) (c .before .before .before .before .before .before .loop .inv) (c .before .before .before .before .before .loop-test .taken))
 
 either-requires : tie.Need-either-requires Inv-loop μ-loop
 either-requires c κs = search needs
@@ -57,7 +57,7 @@ forget-spec =
     add-end
     loop-holds
     put-mark-requires
-    is-empty-requires
+    is-asked-in-turns-requires
     either-requires
     add-i
     loop-less

@@ -1,6 +1,8 @@
--- The tag and the offset are those of the question, or a place among the denials has the node.
+-- The node has the question, or the list says.
 -- Assumes nothing.
+use mathlib.Core.Path.{_∙_}
 use borrow.Author.Needs.{needs}
+use Rattle.support.proofs.Marking.{recollects-no, recollects-yes, recollects-listed}
 use Rattle.support.proofs.recall.Statement.{statement}
 use Rattle.support.proofs.recall.Tie as tie
 
@@ -10,35 +12,23 @@ past-requires c κs = search needs
 tag-requires : tie.Need-tag-requires
 tag-requires c κs = search needs
 
-mul-if2 : tie.Need-mul-if2
-mul-if2 c = search needs
-
-add-if2 : tie.Need-add-if2
-add-if2 c = search needs
+tag-of-requires : tie.Need-tag-of-requires
+tag-of-requires c κs = search needs
 
 returns : tie.Need-returns
-returns c = search needs
+returns c = recollects-no (c .before .before .before .before .past .ensures) (c .before .before .before .if1 .taken) (c .before .before .tag .ensures) (c .if2 .taken ∙ c .before .tag-of .ensures)
 
-mul-if3 : tie.Need-mul-if3
-mul-if3 c = search needs
-
-add-if3 : tie.Need-add-if3
-add-if3 c = search needs
+tag-of-requires-2 : tie.Need-tag-of-requires-2
+tag-of-requires-2 c κs = search needs
 
 returns-2 : tie.Need-returns-2
-returns-2 c = search needs
+returns-2 c = recollects-yes (c .before .before .before .before .before .before .past .ensures) (c .before .before .before .before .before .if1 .taken) (c .before .before .before .before .tag .ensures) (c .if3 .taken ∙ c .before .tag-of2 .ensures)
 
-is-denied-requires : tie.Need-is-denied-requires
-is-denied-requires c κs = search needs
+look-up-requires : tie.Need-look-up-requires
+look-up-requires c κs = search needs
 
 returns-3 : tie.Need-returns-3
-returns-3 c = record { is = (c .before .before .if4 .taken, c .before .is-denied .ensures (c .if5 .taken)) }
-
-returns-4 : tie.Need-returns-4
-returns-4 c = search needs
-
-returns-5 : tie.Need-returns-5
-returns-5 c = search needs
+returns-3 c = search (recollects-listed, needs)
 
 pub recall-spec : {M : Type 1} → statement M
 recall-spec =
@@ -46,13 +36,9 @@ recall-spec =
     (tie.spec
     past-requires
     tag-requires
-    mul-if2
-    add-if2
+    tag-of-requires
     returns
-    mul-if3
-    add-if3
+    tag-of-requires-2
     returns-2
-    is-denied-requires
-    returns-3
-    returns-4
-    returns-5)
+    look-up-requires
+    returns-3)

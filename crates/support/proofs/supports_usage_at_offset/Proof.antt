@@ -1,11 +1,22 @@
 -- What is left open is asked of records that remember nothing, and that say else what they said.
 -- Assumes nothing.
 use borrow.Author.Needs.{needs}
+use Rattle.support.specs.Known.{Askable}
+use Rattle.support.specs.Memory.{LeftOpen}
+use Rattle.support.proofs.Roots.{room}
 use Rattle.support.proofs.Rules.{first-no, first-yes, first-open}
 use Rattle.support.proofs.Staying.{unchanged-none, unchanged-both, supports-before, open-after, asks-after}
 use Rattle.support.proofs.Remembering.{blank-memory}
 use Rattle.support.proofs.supports_usage_at_offset.Statement.{statement}
 use Rattle.support.proofs.supports_usage_at_offset.Tie as tie
+
+-- the question, of records that have forgotten
+
+asks : (c : tie.After-slice-known2) → (let a = c .before .before .before .before .before .before .before .before .before .before .before .args in Askable (a .table .now) (a .places .now) (a .ty) (c .before .before .forget .last .0) (a .q))
+asks c = asks-after (c .before .before .forget .ensures .records) (search needs) (c .before .before .before .before .before .before .before .before .before .before .before .pre)
+
+left : (c : tie.After-slice-known2) → (let a = c .before .before .before .before .before .before .before .before .before .before .before .args in LeftOpen (a .table .now) (a .places .now) (a .ty) (a .at) (c .before .before .forget .last .0) (a .q))
+left c = open-after (c .before .before .forget .ensures .records) (first-open (c .before .before .before .before .before .before .first-tests .ensures) (c .before .before .before .before .enum-told3 .given .1))
 
 first-tests-requires : tie.Need-first-tests-requires
 first-tests-requires c κs = search needs
@@ -22,50 +33,50 @@ enum-told-3 c = search needs
 forget-requires : tie.Need-forget-requires
 forget-requires c κs = search needs
 
-supports-empty-requires : tie.Need-supports-empty-requires
-supports-empty-requires c κs =
-    let G = c .before .before .before .before .forget .ensures in
-    let left = first-open (c .before .before .before .before .before .before .before .before .first-tests .ensures) (c .before .before .before .before .before .before .enum-told3 .given .1) in
-    (asks-after (G .records) (search needs) (c .before .before .before .before .before .before .before .before .before .before .before .before .before .pre), (G .blank, open-after (G .records) left))
+slice-aggregate-supports-past-tests : tie.Need-slice-aggregate-supports-past-tests
+slice-aggregate-supports-past-tests c = search needs
+
+supports-past-tests-requires : tie.Need-supports-past-tests-requires
+supports-past-tests-requires c κs = (asks (c .before .before .before), (blank-memory 1 (c .before .before .before .before .before .forget .ensures .blank), left (c .before .before .before)))
 
 same-length : tie.Need-same-length
 same-length c = search needs
 
 returns : tie.Need-returns
-returns c =
-    let G = c .before .before .before .before .before .before .before .forget .ensures in
-    let told = c .before .before .supports-empty .ensures in
-    (supports-before (G .records) (told .0), unchanged-both (G .records) (told .1))
+returns c = let G = c .before .before .before .before .before .before .before .before .before .forget .ensures in let told = c .before .before .before .supports-past-tests .ensures in (supports-before (G .records) (told .0), unchanged-both (G .records) (told .1 .records))
 
-slice-aggregate-supports-past-tests : tie.Need-slice-aggregate-supports-past-tests
-slice-aggregate-supports-past-tests c = search needs
+asks-few-requires : tie.Need-asks-few-requires
+asks-few-requires c κs = room (asks (c .before .before) .usage)
 
-supports-past-tests-requires : tie.Need-supports-past-tests-requires
-supports-past-tests-requires c κs =
-    let G = c .before .before .before .before .before .forget .ensures in
-    let left = first-open (c .before .before .before .before .before .before .before .before .before .first-tests .ensures) (c .before .before .before .before .before .before .before .enum-told3 .given .1) in
-    (asks-after (G .records) (search needs) (c .before .before .before .before .before .before .before .before .before .before .before .before .before .before .pre), (blank-memory 1 (G .blank), open-after (G .records) left))
+supports-with-few-requires : tie.Need-supports-with-few-requires
+supports-with-few-requires c κs = (asks (c .before .before .before .before .before), (c .before .before .before .before .before .before .before .forget .ensures .blank, left (c .before .before .before .before .before)))
 
 same-length-2 : tie.Need-same-length-2
 same-length-2 c = search needs
 
 returns-2 : tie.Need-returns-2
-returns-2 c = (search (first-no, needs), unchanged-none)
+returns-2 c = let G = c .before .before .before .before .before .before .before .before .before .before .forget .ensures in let told = c .before .before .supports-with-few .ensures in (supports-before (G .records) (told .0), unchanged-both (G .records) (told .1))
+
+supports-with-many-requires : tie.Need-supports-with-many-requires
+supports-with-many-requires c κs = (asks (c .before .before .before .before .before), (c .before .before .before .before .before .before .before .forget .ensures .blank, left (c .before .before .before .before .before)))
 
 same-length-3 : tie.Need-same-length-3
 same-length-3 c = search needs
 
 returns-3 : tie.Need-returns-3
-returns-3 c = (search (first-yes, needs), unchanged-none)
+returns-3 c = (search (first-no, needs), unchanged-none)
 
 same-length-4 : tie.Need-same-length-4
 same-length-4 c = search needs
 
 returns-4 : tie.Need-returns-4
-returns-4 c =
-    let G = c .before .before .before .before .before .before .before .before .before .forget .ensures in
-    let told = c .before .before .before .supports-past-tests .ensures in
-    (supports-before (G .records) (told .0), unchanged-both (G .records) (told .1 .records))
+returns-4 c = (search (first-yes, needs), unchanged-none)
+
+same-length-5 : tie.Need-same-length-5
+same-length-5 c = search needs
+
+returns-5 : tie.Need-returns-5
+returns-5 c = let G = c .before .before .before .before .before .before .before .before .before .before .forget .ensures in let told = c .before .before .supports-with-many .ensures in (supports-before (G .records) (told .0), unchanged-both (G .records) (told .1))
 
 pub supports-usage-at-offset-spec : {M : Type 1} → statement M
 supports-usage-at-offset-spec =
@@ -76,14 +87,18 @@ supports-usage-at-offset-spec =
     enum-told-2
     enum-told-3
     forget-requires
-    supports-empty-requires
-    same-length
-    returns
     slice-aggregate-supports-past-tests
     supports-past-tests-requires
+    same-length
+    returns
+    asks-few-requires
+    supports-with-few-requires
     same-length-2
     returns-2
+    supports-with-many-requires
     same-length-3
     returns-3
     same-length-4
-    returns-4)
+    returns-4
+    same-length-5
+    returns-5)

@@ -23,8 +23,8 @@ use Rattle.transfer.specs.Loading.{Loaded}
 use Rattle.support.specs.Known.{Known, Askable}
 use Rattle.support.specs.Answers.{Supports}
 use Rattle.inputs.proofs.Types.{types-in}
-use Rattle.calls.proofs.Memories.{Memory}
-use Rattle.calls.proofs.Loads.{usage-at}
+use Rattle.serving.proofs.Memories.{Memory}
+use Rattle.serving.proofs.Loads.{usage-at}
 use Rattle.inputs.proofs.Tables.{Begun}
 use Rattle.inputs.proofs.Refusals.{short-work, bad-table, good-table}
 

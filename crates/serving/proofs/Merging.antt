@@ -27,7 +27,7 @@ use Rattle.inputs.specs.declared.Inputs.{Inputs}
 use Rattle.inputs.proofs.Types.{top-types-in}
 use Rattle.answers.proofs.Giving.{gives-kept}
 use Rattle.inputs.proofs.Accepting.{body, refused-by, Going, goes-on}
-use Rattle.calls.proofs.Pairs.{usable, Pair}
+use Rattle.serving.proofs.Pairs.{usable, Pair}
 use Rattle.inputs.proofs.FirstBytes.{firstByte, some-bytes, first-byte}
 
 -- what is told of a stream

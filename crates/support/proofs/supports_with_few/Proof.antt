@@ -1,15 +1,15 @@
--- A list of denials begins with none.
+-- The list begins with nothing.
 -- Assumes nothing.
 use borrow.Author.Needs.{needs}
 use Rattle.support.proofs.Remembering.{blank-memory}
-use Rattle.support.proofs.supports_empty.Statement.{statement}
-use Rattle.support.proofs.supports_empty.Tie as tie
+use Rattle.support.proofs.supports_with_few.Statement.{statement}
+use Rattle.support.proofs.supports_with_few.Tie as tie
 
 slice-aggregate-supports-past-tests : tie.Need-slice-aggregate-supports-past-tests
 slice-aggregate-supports-past-tests c = search needs
 
 supports-past-tests-requires : tie.Need-supports-past-tests-requires
-supports-past-tests-requires c κs = let p = c .before .before .before .before .before .pre in (p .0, (blank-memory 1024 (p .1 .0), p .1 .1))
+supports-past-tests-requires c κs = let p = c .before .before .before .before .before .pre in (p .0, (blank-memory 512 (p .1 .0), p .1 .1))
 
 same-length : tie.Need-same-length
 same-length c = search needs
@@ -17,7 +17,7 @@ same-length c = search needs
 returns : tie.Need-returns
 returns c = let told = c .before .before .before .supports-past-tests .ensures in (told .0, told .1 .records)
 
-pub supports-empty-spec : {M : Type 1} → statement M
-supports-empty-spec =
+pub supports-with-few-spec : {M : Type 1} → statement M
+supports-with-few-spec =
     tie.close
     (tie.spec slice-aggregate-supports-past-tests supports-past-tests-requires same-length returns)

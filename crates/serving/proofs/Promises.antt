@@ -20,7 +20,7 @@ use Rattle.definitions.specs.Calls.{Written, allTypesIn, written, foldCall}
 use Rattle.definitions.proofs.Choice.{either}
 use Rattle.definitions.proofs.Demand.{demand}
 use Rattle.answers.specs.Writing.{Gives}
-use Rattle.calls.specs.Promised.{SoundlyFolded, Promised}
+use Rattle.serving.specs.Promised.{SoundlyFolded, Promised}
 use Rattle.answers.specs.declared.Answer.{Answer}
 use Rattle.answers.specs.Answers.{answerOf}
 

@@ -20,8 +20,8 @@ use Rattle.records.specs.Usages.{At}
 use Rattle.transfer.specs.Loading.{Loaded}
 use Rattle.soundness.specs.Standing.{Standing, Tested}
 use Rattle.inputs.proofs.Types.{types-in}
-use Rattle.calls.proofs.Memories.{Memory}
-use Rattle.calls.proofs.Loads.{usage-at}
+use Rattle.serving.proofs.Memories.{Memory}
+use Rattle.serving.proofs.Loads.{usage-at}
 use Rattle.inputs.proofs.Tables.{Begun}
 use Rattle.inputs.proofs.Refusals.{short-work, bad-table, good-table, unknown-type, many-nodes, few-nodes}
 

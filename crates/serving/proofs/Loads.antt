@@ -7,7 +7,7 @@ use lib.ListN.{length}
 use Rattle.definitions.specs.Limits.{nodeLimit, workLimit}
 use Rattle.records.specs.Usages.{At}
 use Rattle.transfer.specs.Loading.{Loadable, Loaded}
-use Rattle.calls.proofs.Memories.{Memory}
+use Rattle.serving.proofs.Memories.{Memory}
 
 module _ {s : List ℕ} {n b : ℕ} (m : Memory s n b) {work : List ℕ} where
   pub loadable : n ≤ nodeLimit → workLimit ≤ length work → Loadable s 1 n work 0

@@ -1,0 +1,10 @@
+pub mod Memories
+pub mod Loads
+pub mod Sounding
+pub mod Supporting
+pub mod Pairs
+pub mod Placing
+pub mod Merging
+pub mod Promises
+pub mod FoldCalls
+pub mod Sanity
