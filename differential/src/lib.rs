@@ -10,6 +10,7 @@ pub mod notation;
 #[cfg(feature = "library")]
 pub mod plot;
 pub mod power;
+pub mod questions;
 pub mod reading;
 pub mod record;
 pub mod reference;

@@ -3,6 +3,8 @@
 use differential::compare::{Category, compare, compare_one};
 use differential::generate::Source;
 use differential::power::{generated, power};
+use differential::questions::worst::Among;
+use differential::questions::{picture, worst};
 use differential::reading::Reading;
 use differential::record::{Recorded, check_coverage, from_bytes, recorded, to_bytes};
 use differential::reference::Reference;
@@ -13,7 +15,7 @@ use differential::theorems::{Theorems, small_calls};
 use differential::{bench as port, library::Library, plot, stack};
 use std::path::Path;
 use std::process::ExitCode;
-use std::time::Instant;
+use std::time::{Duration, Instant};
 use std::{env, fs, thread};
 
 const USAGE: &str = "\
@@ -33,6 +35,9 @@ theorems DIR                     write recorded and generated calls as theorems 
 power                            each deliberate fault must be noticed
 bench                            how long the port takes, beside the reference (needs the library)
 plot PATH                        how cost grows with nodes, as a picture (needs the library)
+questions                        the layout test's questions, ours and the reference's (needs the library)
+plot-questions PATH              how they grow with the input, as a picture
+worst [--seconds 600] [--seed 1] a search for inputs on which the layout test asks most
 stack                            how much stack the deepest calls need (needs the library)
 ci [PATH]                        all of it, bounded (PATH: the recorded answers)";
 
@@ -79,8 +84,12 @@ fn run() -> Ended {
         ["plot", path] => plot_growth(path),
         #[cfg(feature = "library")]
         ["stack-of", name, kib] => stack::run(name, kib),
+        #[cfg(feature = "library")]
+        ["questions"] => questions_table(),
         #[cfg(not(feature = "library"))]
-        ["bench" | "stack" | "plot", ..] => Err(NOT_LINKED.into()),
+        ["bench" | "stack" | "plot" | "questions", ..] => Err(NOT_LINKED.into()),
+        ["worst", options @ ..] => search_worst(options),
+        ["plot-questions", path] => plot_questions(path),
         ["ci"] => ci(RECORDED),
         ["ci", path] => ci(path),
         _ => Err(USAGE.into()),
@@ -93,10 +102,7 @@ const NOT_LINKED: &str =
 
 #[cfg(feature = "library")]
 fn bench_port() -> Ended {
-    println!("{}\n\n{}", port::table(&port::reading()), port::table(&port::deep()));
-    println!("\n{}", port::supporting());
-    println!("\n{}", port::merging(CallKind::Merge, &port::pairs()));
-    println!("\n{}", port::merging(CallKind::Fold, &port::lists()));
+    println!("{}\n\n{}", port::ratios(), port::deep());
     Ok("bench: medians of 21 runs; deep streams once".into())
 }
 
@@ -112,6 +118,33 @@ fn plot_growth(path: &str) -> Ended {
     fs::write(path, picture).map_err(|error| format!("{path}: {error}"))?;
     println!("{table}");
     Ok(format!("plot: {path}"))
+}
+
+#[cfg(feature = "library")]
+fn questions_table() -> Ended {
+    println!("{}", differential::questions::figures::table()?);
+    Ok("questions: none of the four shapes takes more than it may".into())
+}
+
+fn plot_questions(path: &str) -> Ended {
+    fs::write(path, picture::picture()).map_err(|error| format!("{path}: {error}"))?;
+    Ok(format!("plot-questions: {path}"))
+}
+
+/// The search for inputs on which the layout test asks most, a third of the time for each kind of input.
+fn search_worst(options: &[&str]) -> Ended {
+    let (mut seconds, mut seed) = (600, 1);
+    for pair in options.chunks(2) {
+        match pair {
+            ["--seconds", value] => seconds = number(value)? as u64,
+            ["--seed", value] => seed = number(value)? as u64,
+            _ => return Err(USAGE.into()),
+        }
+    }
+    for among in Among::ALL {
+        println!("{}\n", worst::report(among, Duration::from_secs(seconds) / 3, seed));
+    }
+    Ok(format!("worst: searched for {seconds} s from seed {seed}"))
 }
 
 /// The options of a comparison.

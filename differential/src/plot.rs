@@ -1,6 +1,6 @@
 //! How cost grows with nodes: the call merge beside the reference, from 8 to 512 nodes, as a picture with two logarithmic axes.
 
-use crate::bench::{at_offsets, compared, nested_maps};
+use crate::bench::{Times, at_offsets, compared, nested_maps};
 use crate::side::CallKind;
 use crate::usage::Usage;
 use std::fmt::Write;
@@ -39,7 +39,7 @@ pub fn growth() -> (String, String) {
     for ((name, shape), colour) in SHAPES.into_iter().zip(COLOURS) {
         let figures = NODES.map(|nodes| {
             let [first, second] = [0, 1].map(|which| shape(nodes / 2, which));
-            let [ours, reference, _] = compared(CallKind::Merge, &[first, second]).times;
+            let (_, Times { ours, reference, .. }) = compared(CallKind::Merge, &[first, second]);
             let ratio = ours / reference;
             let _ = write!(
                 table,

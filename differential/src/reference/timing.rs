@@ -35,6 +35,15 @@ pub fn time_supports(
     [whole, start.elapsed()]
 }
 
+/// How long it takes to decode a Memory so many times, and to drop what was decoded.
+pub fn time_decode(memory: &[u8], times: u32) -> Duration {
+    let start = Instant::now();
+    for _ in 0..times {
+        black_box(decode(&mut &black_box(memory)[1..]));
+    }
+    start.elapsed()
+}
+
 /// How long so many merges of the nodes of a list take: decoded, merged one after the other, encoded and dropped; and merged alone.
 /// The layouts stand ready.
 pub fn time_fold(table: &Table, list: &[u8], times: u32) -> [Duration; 2] {
