@@ -18,22 +18,30 @@ fi
 
 rt fmt --check
 
-# The original Rust as judge: worked rows, recorded answers, generated calls, deliberate faults.
 if ! command -v cargo >/dev/null; then
-  echo "test.sh: cargo is not on the PATH; the comparison with the Rust needs it" >&2
+  echo "test.sh: cargo is not on the PATH; the bindings and the comparison with the Rust need it" >&2
   exit 2
 fi
-cargo run --release --quiet --manifest-path differential/Cargo.toml -- ci
 
-# The definitions themselves, computed on recorded and generated calls.
-bash differential/definitions.sh
-
-# The library as others link it: from C, from Rust, and beside the original.
+# The library as others link it: from C and from Rust. Proved first by `rt check`, which uses all cores.
+rt check exports
 rt staticlib exports
 bash bindings/c/example.sh
 cargo test --quiet --manifest-path bindings/rust/Cargo.toml
-cargo run --release --quiet --manifest-path differential/Cargo.toml --features library -- \
-  compare --sides reference,library --count 20000
+
+# The original Rust as judge: worked rows, recorded answers, generated calls, deliberate faults; the library beside it, with how often
+# its layout test asks; the definitions themselves, computed on recorded and generated calls. Its source is not part of this repository
+# (differential/README.md). The merge gate demands it; elsewhere its absence is told, and the proofs and the recorded answers are left.
+if [ -d "${SPIRT_SRC:-../shared/docs/src}" ] || [ -n "${REQUIRE_RUST_SOURCE:-}" ]; then
+  judge=(--release --quiet --manifest-path differential/Cargo.toml --features library)
+  cargo test "${judge[@]}"
+  cargo run "${judge[@]}" -- ci
+  cargo run "${judge[@]}" -- compare --sides reference,library --count 20000
+  cargo run "${judge[@]}" -- questions
+  bash differential/definitions.sh
+else
+  echo "test.sh: NOT COMPARED WITH THE RUST: its source is not there; differential/README.md says where it is looked for" >&2
+fi
 
 # From nothing: every proof, every must-fail edit, every program.
 rt ci

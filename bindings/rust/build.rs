@@ -42,10 +42,14 @@ fn own() -> PathBuf {
     folder
 }
 
-/// Has the toolchain prove the library and write it.
+/// Has the toolchain prove the library, which `check` does on all cores, and write it.
 fn make(root: &Path) {
-    let made = Command::new("rt").args(["staticlib", "exports"]).current_dir(root).output();
-    let output = match made {
+    rt(root, &["check", "exports"]);
+    rt(root, &["staticlib", "exports"]);
+}
+
+fn rt(root: &Path, words: &[&str]) {
+    let output = match Command::new("rt").args(words).current_dir(root).output() {
         Ok(output) => output,
         Err(error) => fail(&format!(
             "the static library `exports` is not built, and the Rattle toolchain's command `rt` \
@@ -54,9 +58,9 @@ fn make(root: &Path) {
         )),
     };
     if !output.status.success() {
-        let words = String::from_utf8_lossy(&output.stderr);
-        let last = words.lines().rev().find(|line| !line.trim().is_empty()).unwrap_or("no message");
-        fail(&format!("`rt staticlib exports` failed ({}): {last}", output.status))
+        let said = String::from_utf8_lossy(&output.stderr);
+        let last = said.lines().rev().find(|line| !line.trim().is_empty()).unwrap_or("no message");
+        fail(&format!("`rt {}` failed ({}): {last}", words.join(" "), output.status))
     }
 }
 
