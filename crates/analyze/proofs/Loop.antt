@@ -11,7 +11,8 @@ use Rattle.definitions.specs.Usage.{Usage, nodes}
 use Rattle.definitions.specs.Table.{Setting}
 use Rattle.definitions.specs.Place.{Result, refused, done, place}
 use Rattle.definitions.proofs.Nodes.{some-node}
-use Rattle.states.specs.Calls.{Known, Ready, Near, placing, merging, Placed}
+use Rattle.layout.specs.Places.{Known}
+use Rattle.states.specs.Calls.{Ready, Near, placing, merging, Placed}
 use Rattle.states.specs.Fingers.{Finger, Fingered}
 use Rattle.states.specs.States.{Beyond, entries, element, joins, act, heading, entryHead, Numbers, Short, Pending, Next, Began, Waiting, Answered, Gave, Took, Settled, Outside}
 use Rattle.states.specs.declared.State.{State}

@@ -1,6 +1,7 @@
 -- What holds of the definitions. First what they are made of, then each theorem with the file that proves it.
 pub mod Choice
 pub mod Nodes
+pub mod After
 -- streams: reading and writing are each other's inverse
 pub mod Reading
 pub mod Written

@@ -1,23 +1,14 @@
 -- Placing the entries one by one is placing them all: reports and pairings add up in any order.
 -- Assumes nothing.
 use Prim.Native.Nat.{ℕ, suc, _+_}
-use mathlib.Core.Path.{_≡_, refl, ap}
-use mathlib.Core.List.{List, [], _++_, append-nil, append-assoc}
+use mathlib.Core.Path.{_≡_, refl, sym, ap}
+use mathlib.Core.List.{List, [], append-nil}
 use native.Mathlib.Omega.{arith}
 use Rattle.definitions.specs.Usage.{Size, Usage, map, Entries, none, entry}
 use Rattle.definitions.specs.Table.{Setting}
 use Rattle.definitions.specs.Place.{Result, refused, done, ofEntry, ofRule, headed, after, andThen, placeEntries, placeByKind, place}
+use Rattle.definitions.proofs.After.{after-nothing, after-both}
 use Rattle.states.specs.States.{entries, finish, resume, act}
-
-after-after : (w v : List ℕ) (p q : ℕ) (x : Result Usage) → after (w ++ v) (p + q) x ≡ after w p (after v q x)
-after-after w v p q (refused k) = refl
-after-after w v p q (done u v′ q′) =
-    let e : p + q + q′ ≡ p + (q + q′) = omega arith in
-    cc (append-assoc w v v′)
-
-after-nothing : (x : Result Usage) → after [] 0 x ≡ x
-after-nothing (refused k) = refl
-after-nothing (done u w p) = let e : 0 + p ≡ p = omega arith in rw e
 
 module _ (st : Setting) where
   pub finish-none : (u : Usage) (w : List ℕ) (p : ℕ) → finish st (entries none) u w p ≡ done u (ofRule w) (suc p)
@@ -31,7 +22,7 @@ module _ (st : Setting) where
   unfolding resume finish
   resume-of es o w p (refused k) = refl
   resume-of es o w p (done u w′ p′) =
-      ap (λ (x : Result Usage). after [] 1 (headed x)) (after-after w (ofEntry o w′) p p′ (placeEntries st (place st) u es))
+      ap (λ (x : Result Usage). after [] 1 (headed x)) (sym (after-both w (ofEntry o w′) p p′ (placeEntries st (place st) u es)))
 
   pub resume-entry : (o : ℕ) (t u : Usage) (es : Entries) (w : List ℕ) (p : ℕ)
       → resume st (entries es) o w p (act st 1 o t u) ≡ finish st (entries (entry o u es)) t w p

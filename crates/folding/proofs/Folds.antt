@@ -3,7 +3,7 @@
 -- Assumes nothing.
 use Prim.Native.Nat.{ℕ, suc, _+_, _*_, _-_, _%_, _^_, _<_, _≤_}
 use mathlib.Core.Path.{_≡_, refl, sym, ap, _∙_}
-use mathlib.Core.List.{List, [], _∷_, _++_, append-assoc, append-nil}
+use mathlib.Core.List.{List, [], _∷_, _++_, append-nil}
 use native.Mathlib.Omega.{arith}
 use native.Mathlib.Numerals.{add-one}
 use lib.ListN.{length, drop, getD, length-append}
@@ -14,29 +14,21 @@ use Rattle.definitions.specs.Table.{Setting}
 use Rattle.definitions.specs.Place.{Result, refused, done, after, mergeMem, ofNode, andThen, foldFrom, fold}
 use Rattle.definitions.specs.Inner.Storable.{Storable, AllStorable}
 use Rattle.definitions.proofs.Nodes.{some-node}
+use Rattle.definitions.proofs.After.{after-nothing, after-both}
 use Rattle.definitions.proofs.FewPairings.{mergeMem-few, fold-few}
 use Rattle.definitions.proofs.Stored.{mergeMem-storable}
 use Rattle.records.specs.Usages.{At}
 use Rattle.records.proofs.Parts.{same-bytes}
+use Rattle.layout.specs.Places.{Known}
 use Rattle.report.specs.Emitted.{Emitted}
 use Rattle.report.proofs.Emitting.{emitted-nothing, emitted-after}
-use Rattle.states.specs.Calls.{Known, Done}
+use Rattle.states.specs.Calls.{Done}
 use Rattle.answers.specs.Writing.{Reached}
 use Rattle.folding.specs.Folding.{NodeReady, NodeLoaded, NextReady, ofNext, NextFolded, Foldable}
 use Rattle.folding.specs.declared.Folded.{Folded}
 use Rattle.folding.specs.declared.Loaded.{Loaded}
 use Rattle.folding.proofs.Lists.{Listed, nodes-left, list-behind}
 use Rattle.answers.proofs.Reaching.{reached}
-
--- Results
-
-after-nothing : {A : Type 0} (r : Result A) → after [] 0 r ≡ r
-after-nothing (refused k) = refl
-after-nothing (done a w p) = let e : 0 + p ≡ p = omega arith in rw e
-
-after-both : {A : Type 0} (w w′ : List ℕ) (p p′ : ℕ) (r : Result A) → after w p (after w′ p′ r) ≡ after (w ++ w′) (p + p′) r
-after-both w w′ p p′ (refused k) = refl
-after-both w w′ p p′ (done a v q) = let e : p + (p′ + q) ≡ p + p′ + q = omega arith in rw (e, append-assoc w w′ v)
 
 -- 38 and an index are three bytes
 node-short : (i : ℕ) (w : List ℕ) → length (ofNode i w) ≤ 3 + length w

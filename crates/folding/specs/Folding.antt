@@ -12,8 +12,9 @@ use Rattle.definitions.specs.Table.{Setting}
 use Rattle.definitions.specs.Place.{Result, refused, done, mergeMem, ofNode, fold}
 use Rattle.definitions.specs.Inner.Storable.{Storable, StorableList}
 use Rattle.records.specs.Usages.{At}
+use Rattle.layout.specs.Places.{Known}
 use Rattle.transfer.specs.Loading.{KeptBelow}
-use Rattle.states.specs.Calls.{Known, Done}
+use Rattle.states.specs.Calls.{Done}
 use Rattle.states.specs.declared.Outcome.{Outcome}
 use Rattle.answers.specs.Writing.{Reached}
 use Rattle.folding.specs.declared.Folded.{Folded}

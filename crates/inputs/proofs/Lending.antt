@@ -15,7 +15,8 @@ use Rattle.definitions.proofs.Nodes.{some-node}
 use Rattle.records.specs.Usages.{At}
 use Rattle.records.proofs.Usages.{at-move}
 use Rattle.records.proofs.Parts.{same-take}
-use Rattle.states.specs.Calls.{Known, Two, Ready}
+use Rattle.layout.specs.Places.{Known}
+use Rattle.states.specs.Calls.{Two, Ready}
 
 -- the records of n and m nodes that are lent, and the work area once they are back as s
 abbrev pub lent : ℕ → ℕ → List ℕ → List ℕ

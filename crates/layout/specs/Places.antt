@@ -8,7 +8,7 @@ use mathlib.Core.Option.{none as nothing, some}
 use lib.ListN.{length, getD, take, drop}
 use Rattle.definitions.specs.Limits.{recordLimit}
 use Rattle.definitions.specs.Stream.{read}
-use Rattle.definitions.specs.Table.{Table, TypeLayout as Layout, layoutOf, isConcrete, readLayout, fieldsAdmitted, admitted, tableOf}
+use Rattle.definitions.specs.Table.{Table, Setting, TypeLayout as Layout, layoutOf, isConcrete, readLayout, fieldsAdmitted, admitted, tableOf}
 use Rattle.layout.specs.Bytes.{pair, fieldsAt}
 use Rattle.layout.specs.Values.{layoutIn, Formed}
 use Rattle.layout.specs.declared.Records.{Records}
@@ -23,6 +23,11 @@ pub record Placed (s : List ℕ) (t : Table) (places : List ℕ) (ty : ℕ) : Ty
 
 abbrev pub Places : List ℕ → Table → List ℕ → Type 0
 Places s t places = (ty : ℕ) → ty < length t → Placed s t places ty
+
+-- the table that the bytes are is the setting's, and its records stand at these places
+pub record Known (s places : List ℕ) (st : Setting) : Type 0 where
+  pub read : tableOf s ≡ some (st .table)
+  pub placed : Places s (st .table) places
 
 -- A type's layout. What is said holds of every table that stands in s.
 

@@ -13,8 +13,9 @@ use Rattle.definitions.specs.Place.{after, isStrict, placeByKind, place}
 use Rattle.records.specs.Records.{commandIn, Typed as Retyped}
 use Rattle.records.specs.Usages.{At}
 use Rattle.records.proofs.Usages.{holds-move}
+use Rattle.layout.specs.Places.{Known}
 use Rattle.report.specs.Emitted.{Emitted}
-use Rattle.states.specs.Calls.{Known, Two, Ready}
+use Rattle.states.specs.Calls.{Two, Ready}
 use Rattle.states.specs.States.{Next, Begins}
 use Rattle.states.specs.Starts.{Plain}
 use Rattle.states.specs.Ends.{finishedState}

@@ -15,7 +15,8 @@ use Rattle.definitions.specs.Place.{typeAtZero, Kept as KeptType, asked}
 use Rattle.definitions.specs.Inner.Storable.{Storable}
 use Rattle.records.specs.Records.{argumentIn}
 use Rattle.records.specs.Usages.{At}
-use Rattle.states.specs.Calls.{Known, Two}
+use Rattle.layout.specs.Places.{Known}
+use Rattle.states.specs.Calls.{Two}
 use Rattle.support.specs.Answers.{Answers}
 use Rattle.support.specs.declared.Asked.{Asked}
 use Rattle.support.specs.declared.Asked.the-variants.{No}
@@ -30,7 +31,7 @@ answers : {table places : List ℕ} {ty d : ℕ} {s : List ℕ} {q : ℕ} {a : A
     → ty < length (setting .table) → (u : Usage) (o : ℕ) → At u s q o → (other : Kept) (x : KeptType) → (a ≡ No → keptOf other ≡ x)
     → keptOf (decided a ty other) ≡ asked setting ty d u x
 answers {ty} {d} {a} A setting known below u o r other x same =
-    decides setting ty d u a other x (A .is setting (record { read = known .read; placed = known .placed }) below u o r) same
+    decides setting ty d u a other x (A .is setting known below u o r) same
 
 abbrev differing : ℕ → Kept
 differing ty = record { ty = ty; conflict = Types }

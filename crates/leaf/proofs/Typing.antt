@@ -89,7 +89,7 @@ typed-at zero (array z n v) e = let z : _≡_ {A = ℕ} 0 1 = cc in absurd (omeg
 module _ {table places s : List ℕ} {na nb : ℕ} (R : Ready table places s na nb) where
   pub askable-right : {ty : ℕ} → Typed (commandIn s 0) → ty ≡ argumentIn s 0 → Askable table places ty s na
   askable-right {ty} T e = record {
-    type = record { setting = R .setting; known = record { read = R .known .read; placed = R .known .placed }; below = go (left-leaf (R .two) T) (R .two) };
+    type = record { setting = R .setting; known = R .known; below = go (left-leaf (R .two) T) (R .two) };
     usage = record {
       usage = R .b;
       offset = R .two .right-offset;
@@ -106,7 +106,7 @@ module _ {table places s : List ℕ} {na nb : ℕ} (R : Ready table places s na 
   askable-left {d} {c} A t e = record {
     type = record {
       setting = R .setting;
-      known = record { read = R .known .read; placed = R .known .placed };
+      known = R .known;
       below = go (typed-at d (R .b) (A .is (R .b) (R .two .right-offset) (R .two .right) ∙ rw (t, e) refl)) (R .two);
     };
     usage = record {

@@ -10,7 +10,8 @@ use Rattle.definitions.specs.Table.{Setting}
 use Rattle.definitions.specs.Place.{typeAtZero, Kept as KeptType, keptType, typeConflict, handleConflict, failedConflict}
 use Rattle.records.specs.Records.{argumentIn}
 use Rattle.records.specs.Usages.{At}
-use Rattle.states.specs.Calls.{Known, Two}
+use Rattle.layout.specs.Places.{Known}
+use Rattle.states.specs.Calls.{Two}
 use Rattle.support.specs.declared.Asked.{Asked}
 use Rattle.support.specs.declared.Asked.the-variants.{No, Yes, Handle, Failed}
 use Rattle.leaf.specs.declared.Kept.{Kept}

@@ -17,9 +17,10 @@ use Rattle.definitions.proofs.Writable.{Writable}
 use Rattle.definitions.proofs.Storable.{known-storable}
 use Rattle.definitions.proofs.Rounds.{write-read}
 use Rattle.records.proofs.Parts.{same-left}
+use Rattle.layout.specs.Places.{Known}
 use Rattle.stream.specs.Found.{typeBound}
 use Rattle.stream.specs.declared.Found.{Found}
-use Rattle.states.specs.Calls.{Known, Two, Ready, Placed, placing, merging}
+use Rattle.states.specs.Calls.{Two, Ready, Placed, placing, merging}
 use Rattle.states.specs.declared.Outcome.{Outcome}
 use Rattle.inputs.specs.Inputs.{Good, Both, BothLoaded}
 use Rattle.answers.specs.Writing.{Reached}

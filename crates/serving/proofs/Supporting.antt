@@ -18,9 +18,9 @@ use Rattle.definitions.specs.Place.{done}
 use Rattle.definitions.specs.Support.{supports}
 use Rattle.definitions.specs.Calls.{refuseIf, refusal, said, supportsCall}
 use Rattle.records.specs.Usages.{At}
-use Rattle.layout.specs.Places.{InTable, Says}
+use Rattle.layout.specs.Places.{Known, InTable, Says}
 use Rattle.transfer.specs.Loading.{Loaded}
-use Rattle.support.specs.Known.{Known, Askable}
+use Rattle.support.specs.Known.{Askable}
 use Rattle.support.specs.Answers.{Supports}
 use Rattle.inputs.proofs.Types.{types-in}
 use Rattle.serving.proofs.Memories.{Memory}

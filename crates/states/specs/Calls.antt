@@ -2,21 +2,15 @@
 use Prim.Native.Nat.{ℕ, _+_, _*_, _%_, _^_, _≤_}
 use mathlib.Core.Path.{_≡_}
 use mathlib.Core.List.{List}
-use mathlib.Core.Option.{some}
 use lib.ListN.{length}
 use Rattle.definitions.specs.Limits.{nodeLimit}
 use Rattle.definitions.specs.Usage.{Usage, nodes}
-use Rattle.definitions.specs.Table.{Setting, tableOf}
+use Rattle.definitions.specs.Table.{Setting}
 use Rattle.definitions.specs.Place.{Result, refused, done, place, mergeMem}
 use Rattle.definitions.specs.Inner.Storable.{Storable}
 use Rattle.records.specs.Usages.{At}
-use Rattle.layout.specs.Places.{Places}
+use Rattle.layout.specs.Places.{Known}
 use Rattle.report.specs.Emitted.{Emitted}
-
--- the table's bytes, and where its records stand, are the setting's
-pub record Known (table places : List ℕ) (st : Setting) : Type 0 where
-  pub read : tableOf table ≡ some (st .table)
-  pub placed : Places table (st .table) places
 
 -- a and b stand side by side, with types below k
 pub record Two (k : ℕ) (s : List ℕ) (na nb : ℕ) (a b : Usage) : Type 0 where

@@ -12,8 +12,9 @@ use Rattle.definitions.specs.Inner.Storable.{Storable, Ascends}
 use Rattle.definitions.specs.Inner.Pairs.{pairs as apart, pairsIn as apartIn}
 use Rattle.records.specs.Records.{commandIn, sizeIn, argumentIn}
 use Rattle.records.specs.Usages.{At, EntriesAt}
+use Rattle.layout.specs.Places.{Known}
 use Rattle.report.specs.Emitted.{Emitted}
-use Rattle.states.specs.Calls.{Known, Two, Done}
+use Rattle.states.specs.Calls.{Two, Done}
 use Rattle.states.specs.Fingers.{Finger}
 use Rattle.states.specs.declared.State.{State}
 use Rattle.states.specs.declared.Outcome.{Outcome}

@@ -13,11 +13,12 @@ use Rattle.definitions.specs.Containment.{Inside, endOf}
 use Rattle.definitions.specs.Support.{anyOf, componentSupports, supports}
 use Rattle.records.specs.Records.{sizeIn}
 use Rattle.records.specs.Usages.{At}
+use Rattle.layout.specs.Places.{Known}
 use Rattle.layout.specs.Containing.{containingFrom, Next, Finds}
 use Rattle.layout.specs.declared.Containing.{Containing}
 use Rattle.layout.specs.declared.Containing.the-variants.{In, Nothing}
 use Rattle.layout.proofs.Uses.{component-below, from-start}
-use Rattle.support.specs.Known.{Known, ConcreteAskable}
+use Rattle.support.specs.Known.{ConcreteAskable}
 use Rattle.support.specs.Answers.{InLayout, Supports, ComponentSupports}
 use Rattle.support.proofs.Roots.{size-is}
 

@@ -11,11 +11,12 @@ use Rattle.definitions.specs.Table.{Setting, Components as Parts, concrete, lay
 use Rattle.definitions.specs.Support.{elementsSupported, itself, supports}
 use Rattle.records.specs.Records.{commandIn}
 use Rattle.records.specs.Usages.{At}
+use Rattle.layout.specs.Places.{Known}
 use Rattle.layout.specs.Values.{partsOf}
 use Rattle.layout.specs.declared.Components.{Components}
 use Rattle.layout.specs.declared.Components.the-variants.{Scalar, Elements, Fields}
 use Rattle.layout.proofs.Finding.{some-stride, element-below}
-use Rattle.support.specs.Known.{Known, Askable, ComponentsOf}
+use Rattle.support.specs.Known.{Askable, ComponentsOf}
 use Rattle.support.specs.Answers.{EntriesSupported, ElementsSupported, ItselfSupports}
 use Rattle.support.proofs.Roots.{by-kind, on-map, on-array}
 use Rattle.support.proofs.Types.{type-in, layout-is, asks-earlier}

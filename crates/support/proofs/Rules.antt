@@ -13,12 +13,11 @@ use Rattle.definitions.specs.Support.{Asking, outside, componentSupports, itsel
 use Rattle.records.specs.Records.{commandIn, sizeIn}
 use Rattle.records.specs.Usages.{At}
 use Rattle.layout.specs.Values.{partsOf, layoutIn}
-use Rattle.layout.specs.Places.{LayoutIs}
+use Rattle.layout.specs.Places.{Known, LayoutIs}
 use Rattle.layout.specs.declared.Components.{Components}
 use Rattle.layout.specs.declared.TypeLayout.{TypeLayout}
 use Rattle.layout.specs.declared.TypeLayout.the-variants.{Concrete}
 use Rattle.layout.proofs.Clash.{clash}
-use Rattle.support.specs.Known.{Known}
 use Rattle.support.specs.Answers.{WholeLeaf, Supports, ComponentSupports, ItselfSupports}
 use Rattle.support.specs.Memory.{LeftOpen, FirstSays}
 use Rattle.support.specs.declared.First.{First}

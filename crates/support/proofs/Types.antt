@@ -12,12 +12,12 @@ use Rattle.definitions.specs.Support.{supportRules, supports}
 use Rattle.definitions.proofs.Earlier.{accepted}
 use Rattle.definitions.proofs.Support.{supports-is}
 use Rattle.layout.specs.Values.{partsOf, layoutIn}
-use Rattle.layout.specs.Places.{InTable, LayoutIs}
+use Rattle.layout.specs.Places.{Known, InTable, LayoutIs}
 use Rattle.layout.specs.declared.Components.{Components}
 use Rattle.layout.specs.declared.TypeLayout.{TypeLayout}
 use Rattle.layout.specs.declared.TypeLayout.the-variants.{Concrete, Handle, Failed}
 use Rattle.layout.proofs.Clash.{clash}
-use Rattle.support.specs.Known.{Known, TypeKnown, ConcreteType, Askable, ConcreteAskable, ComponentsOf}
+use Rattle.support.specs.Known.{TypeKnown, ConcreteType, Askable, ConcreteAskable, ComponentsOf}
 
 module _ {table places : List ℕ} where
   pub type-in : {ty : ℕ} → TypeKnown table places ty → InTable table places ty

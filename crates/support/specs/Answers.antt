@@ -11,7 +11,7 @@ use Rattle.definitions.specs.Usage.{Size, Usage, map, array, Entries}
 use Rattle.definitions.specs.Table.{Setting, Components as Parts, elements, TypeLayout as Layout, concrete, handle, failed, layoutOf}
 use Rattle.definitions.specs.Support.{isLeafOf, componentSupports, entrySupported, entriesSupported, elementsSupported, itself, supports}
 use Rattle.records.specs.Usages.{At}
-use Rattle.support.specs.Known.{Known}
+use Rattle.layout.specs.Places.{Known}
 use Rattle.support.specs.declared.Asked.{Asked}
 use Rattle.support.specs.declared.Asked.the-variants.{No, Yes, Handle, Failed}
 

@@ -3,22 +3,16 @@
 use Prim.Native.Nat.{ℕ, _+_, _*_, _<_, _≤_}
 use mathlib.Core.Path.{_≡_}
 use mathlib.Core.List.{List}
-use mathlib.Core.Option.{some}
 use lib.ListN.{length}
 use Rattle.definitions.specs.Usage.{Usage, nodes}
-use Rattle.definitions.specs.Table.{Setting, Components as Parts, concrete, layoutOf, tableOf}
+use Rattle.definitions.specs.Table.{Setting, Components as Parts, concrete, layoutOf}
 use Rattle.records.specs.Records.{Same}
 use Rattle.records.specs.Usages.{At}
-use Rattle.layout.specs.Places.{Places, LayoutIs}
+use Rattle.layout.specs.Places.{Known, LayoutIs}
 use Rattle.layout.specs.declared.Components.{Components}
 use Rattle.layout.specs.declared.TypeLayout.the-variants.{Concrete}
 
--- the setting's table is the one that the bytes are, and its records stand at these places
-pub record Known (table places : List ℕ) (st : Setting) : Type 0 where
-  pub read : tableOf table ≡ some (st .table)
-  pub placed : Places table (st .table) places
-
--- there is such a setting, and the type is one of its table
+-- there is a setting whose table the bytes are, and the type is one of it
 pub record TypeKnown (table places : List ℕ) (ty : ℕ) : Type 0 where
   pub setting : Setting
   pub known : Known table places setting
