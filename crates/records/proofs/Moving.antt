@@ -5,10 +5,10 @@ use mathlib.Core.Path.{_≡_, refl, sym, _∙_}
 use mathlib.Core.List.{List}
 use native.Mathlib.Decide.{decLt, ℕ-discrete}
 use native.Mathlib.Omega.{arith}
-use lib.ListN.{length, take, drop, getD, set, length-drop}
+use lib.ListN.{length, take, drop, getD, set, length-drop, length-set}
 use lib.Seq.{getD-set-same, getD-set-other, length-take-le}
 use Rattle.records.specs.Words.{word, Copied}
-use Rattle.records.specs.Records.{sizeFrom, commandIn, countIn, argumentIn, offsetIn, Same, Written, Assigned, Raised, Moved, Exchanged, Swapped, Apart}
+use Rattle.records.specs.Records.{sizeFrom, commandIn, countIn, argumentIn, offsetIn, Same, Written, Raised, Moved, Exchanged, Swapped, Apart}
 use Rattle.records.proofs.Usages.{holds-move, same-at}
 use Rattle.records.proofs.Parts.{byte-at, same-bytes, returned, same-part, same-back, same-below, same-above}
 use Rattle.records.proofs.Writing.{saved}
@@ -58,29 +58,31 @@ exchanged-at s s′ n m x y e e′ E = rw (e, e′) E
 
 -- Exchanging with a single record
 
--- the first n records are as they were up to i, and those from i on stand one higher
-pub record Lifted (s₀ s : List ℕ) (n i : ℕ) : Type 0 where
-  pub low : i ≤ n
+-- the first e bytes are as they were up to i, and those from i on stand a record higher
+pub record Lifted (s₀ s : List ℕ) (e i : ℕ) : Type 0 where
+  pub low : i ≤ e
   pub len : length s ≡ length s₀
-  pub stay : (k : ℕ) → k < i → Same s₀ k s k
-  pub lifted : (k : ℕ) → i ≤ k → k < n → Same s₀ k s (1 + k)
+  pub stay : (k : ℕ) → k < i → getD s k 0 ≡ getD s₀ k 0
+  pub lifted : (k : ℕ) → i ≤ k → k < e → getD s (k + 32) 0 ≡ getD s₀ k 0
 
-pub lifted-none : {s : List ℕ} {n : ℕ} → Lifted s s n n
-lifted-none {s} = record { low = omega arith; len = refl; stay = λ k a. itself s k; lifted = λ k a b. absurd (omega arith) }
+pub lifted-none : {s : List ℕ} {e : ℕ} → Lifted s s e e
+lifted-none = record { low = omega arith; len = refl; stay = λ k a. refl; lifted = λ k a b. absurd (omega arith) }
 
-pub lifted-more : (s₀ s s′ : List ℕ) (n i i′ j : ℕ) → Lifted s₀ s n i → 0 < i → i′ ≡ i - 1 → j ≡ i′ + 1 → Assigned s s′ j i′ → length s′ ≡ length s → Lifted s₀ s′ n i′
-lifted-more s₀ s s′ n i i′ j L lt ei ej W l = record {
-  low = omega (arith, L .low);
-  len = l ∙ L .len;
-  stay = λ k a. holds-move (W .others k (omega arith)) (L .stay k (omega arith));
-  lifted = λ k a b. elim (ℕ-discrete k i′) [
-    | yes q ↦ same-at s₀ s′ i′ j k (1 + k) (sym q) (omega arith) (holds-move (W .here) (L .stay i′ (omega arith)))
-    | no q ↦ holds-move (W .others (1 + k) (omega arith)) (L .lifted k (omega arith) b)
-  ];
-}
+pub lifted-more : {s₀ s s′ : List ℕ} {e i i′ : ℕ} → Lifted s₀ s e i → 0 < i → i′ ≡ i - 1 → s′ ≡ set s (i′ + 32) (getD s i′ 0) → e + 32 ≤ length s₀ → Lifted s₀ s′ e i′
+lifted-more {s} {s′} {i} {i′} L lt ei es room =
+    let other : (k : ℕ) → (k ≡ i′ + 32 → ⊥) → getD s′ k 0 ≡ getD s k 0 = λ k ne. rw es (getD-set-other s (i′ + 32) k (getD s i′ 0) 0 ne) in
+    record {
+      low = omega (arith, L .low);
+      len = rw es (length-set s (i′ + 32) (getD s i′ 0)) ∙ L .len;
+      stay = λ k a. other k (omega arith) ∙ L .stay k (omega arith);
+      lifted = λ k a b. elim (ℕ-discrete k i′) [
+        | yes q ↦ rw (es, q) (getD-set-same s (i′ + 32) (getD s i′ 0) 0 (omega (arith, L .low, L .len)) ∙ L .stay i′ (omega arith))
+        | no q ↦ other (k + 32) (omega arith) ∙ L .lifted k (omega arith) b
+      ];
+    }
 
-pub lifted-all : (s₀ s : List ℕ) (n i : ℕ) → Lifted s₀ s n i → i ≤ 0 → Raised s₀ s n
-lifted-all s₀ s n i L le = λ k lt. L .lifted k (omega arith) lt
+pub lifted-all : (s₀ s : List ℕ) (n i : ℕ) → Lifted s₀ s (n * 32) i → i ≤ 0 → Raised s₀ s n
+lifted-all s₀ s n i L le = λ q lt. same-bytes s₀ s q (1 + q) (λ k l. byte-at s ((1 + q) * 32 + k) (q * 32 + k + 32) (omega arith) ∙ L .lifted (q * 32 + k) (omega arith) (omega arith))
 
 pub rotated-up : {s s₁ s₂ : List ℕ} {n c k f z t o : ℕ} → c ≡ commandIn s n → k ≡ countIn s n → f ≡ word s (n * 32 + 8) → z ≡ word s (n * 32 + 12) → t ≡ argumentIn s n → o ≡ offsetIn s n
     → Raised s s₁ n → Written s₁ s₂ 0 c k (sizeFrom f z) t o → Exchanged s s₂ n 1

@@ -14,7 +14,7 @@ use Rattle.qptr.specs.Values.{sizeOf}
 use Rattle.qptr.specs.declared.MaxSize.{MaxSize}
 use Rattle.qptr.specs.declared.MaxSize.the-variants.{Fixed, Dynamic}
 use Rattle.records.specs.Words.{word, put}
-use Rattle.records.specs.Records.{sizeFrom, commandIn, countIn, sizeIn, argumentIn, offsetIn, Same, Written, Sized, Counted, Shifted, Typed, Assigned, Swapped, tagIn, pastIn, Marked}
+use Rattle.records.specs.Records.{sizeFrom, commandIn, countIn, sizeIn, argumentIn, offsetIn, Same, Written, Sized, Counted, Shifted, Typed, Swapped, tagIn, pastIn, Marked}
 use Rattle.records.proofs.Words.{length-put, word-put, word-put-other}
 use Rattle.records.proofs.Usages.{holds-move}
 
@@ -155,10 +155,6 @@ marked s s₁ s₂ q t p e₁ e₂ h ft fp =
 pub saved : (s : List ℕ) (q : ℕ) {s₁ s₂ : List ℕ} {p c n f z t o : ℕ} → c ≡ commandIn s q → n ≡ countIn s q → f ≡ word s (q * 32 + 8) → z ≡ word s (q * 32 + 12) → t ≡ argumentIn s q → o ≡ offsetIn s q
     → Written s₁ s₂ p c n (sizeFrom f z) t o → Same s q s₂ p
 saved s q ec en ef ez et eo W = let H : _ = W .here in record { command = cc; nodes = cc; size = cc; argument = cc; offset = cc }
-
-pub assigned : {s s′ : List ℕ} {to from c n f z t o : ℕ} → c ≡ commandIn s from → n ≡ countIn s from → f ≡ word s (from * 32 + 8) → z ≡ word s (from * 32 + 12) → t ≡ argumentIn s from → o ≡ offsetIn s from
-    → Written s s′ to c n (sizeFrom f z) t o → Assigned s s′ to from
-assigned {s} {from} ec en ef ez et eo W = record { here = saved s from ec en ef ez et eo W; others = W .others }
 
 pub swapped : {s s₁ s₂ : List ℕ} {i j c n f z t o jc jn jf jz jt jo : ℕ} → i < j
     → c ≡ commandIn s i → n ≡ countIn s i → f ≡ word s (i * 32 + 8) → z ≡ word s (i * 32 + 12) → t ≡ argumentIn s i → o ≡ offsetIn s i

@@ -65,11 +65,6 @@ Shifted s s′ q o = Written s s′ q (commandIn s q) (countIn s q) (sizeIn s q)
 abbrev pub Typed : List ℕ → List ℕ → ℕ → ℕ → ℕ → Type 0
 Typed s s′ q c t = Written s s′ q c (countIn s q) (sizeIn s q) t (offsetIn s q)
 
--- record `to` says what record `from` said, and all others say what they said
-pub record Assigned (s s′ : List ℕ) (to from : ℕ) : Type 0 where
-  pub here : Same s from s′ to
-  pub others : (i : ℕ) → (i ≡ to → ⊥) → Same s i s′ i
-
 -- the first n records stand one higher
 abbrev pub Raised : List ℕ → List ℕ → ℕ → Type 0
 Raised s s′ n = (i : ℕ) → i < n → Same s i s′ (1 + i)

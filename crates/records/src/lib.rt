@@ -4,7 +4,7 @@ ghost use Prim.Native.Nat.{_+_, _*_, _<_, _≤_};
 ghost use lib.ListN.{length};
 ghost use Rattle.qptr.specs.Values.{sizeOf};
 ghost use Rattle.records.specs.Words.{word, put, Copied};
-ghost use Rattle.records.specs.Records.{sizeFrom, commandIn, countIn, sizeIn, argumentIn, offsetIn, Moved, Exchanged, Sized, Counted, Shifted, Typed, Written, Assigned, Raised, Swapped, Apart, tagIn, pastIn, Marked};
+ghost use Rattle.records.specs.Records.{sizeFrom, commandIn, countIn, sizeIn, argumentIn, offsetIn, Moved, Exchanged, Sized, Counted, Shifted, Typed, Written, Raised, Swapped, Apart, tagIn, pastIn, Marked};
 use qptr::MaxSize;
 
 // The bytes of a record.
@@ -208,29 +208,15 @@ fn swap(s: &mut [u8], i: usize, j: usize)
     put_words(s, j, c, n, f, z, t, o);
 }
 
-// Record `to` says what record `from` says.
-fn assign(s: &mut [u8], to: usize, from: usize)
-    requires { ⌜ (to * 32 + 32 ≤ length (now s)) × (from * 32 + 32 ≤ length (now s)) ⌝ }
-    ensures { λ r. ⌜ Assigned (now (s .entry)) (now (s .exit)) to from ⌝ }
-{
-    let c = command(s, from);
-    let n = get32(s, from * 32 + 4);
-    let f = get32(s, from * 32 + 8);
-    let z = get32(s, from * 32 + 12);
-    let t = argument(s, from);
-    let o = offset(s, from);
-    put_words(s, to, c, n, f, z, t, o);
-}
-
 // The first n records move up by one, over the record after them.
 fn raise(s: &mut [u8], n: usize)
     requires { ⌜ n * 32 + 32 ≤ length (now s) ⌝ }
     ensures { λ r. ⌜ Raised (now (s .entry)) (now (s .exit)) n ⌝ }
 {
-    let mut i = n;
+    let mut i = n * 32;
     while 0 < i {
         i = i - 1;
-        assign(s, i + 1, i);
+        s[i + 32] = s[i];
     }
 }
 
