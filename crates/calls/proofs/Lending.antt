@@ -9,5 +9,5 @@ use lib.ListN.{length}
 use Rattle.layout.specs.Bytes.{pair}
 use Rattle.layout.specs.Places.{Room}
 
-pub few-lent : (s places : List ℕ) {b : Bool} → (b ≡ true → pair s 0 ≤ 64) → b ≡ true → 64 ≤ length places → Room s places
+pub few-lent : (s places : List ℕ) {b : Bool} → (b ≡ true → pair s 0 ≤ 32) → b ≡ true → 32 ≤ length places → Room s places
 few-lent s places few test room says = omega (arith, few test)

@@ -18,7 +18,7 @@ use records::get32;
 pub const RECORDS: usize = 1024;
 
 // As many records as most tables have at most.
-pub const FEW: usize = 64;
+pub const FEW: usize = 32;
 
 const FIELDS: usize = 64;
 
@@ -306,7 +306,7 @@ const REFUSED: Records = Records {
 
 // Does a table say that it has few records?
 pub fn has_few(s: &[u8]) -> bool
-    ensures { λ r. ⌜ (r ≡ true → pair (now (s .entry)) 0 ≤ 64) ⌝ }
+    ensures { λ r. ⌜ (r ≡ true → pair (now (s .entry)) 0 ≤ 32) ⌝ }
 {
     if s.len() < 2 {
         return false;

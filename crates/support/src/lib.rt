@@ -153,10 +153,14 @@ fn node_and_type(ty: u32, q: usize) -> u32
 
 // Which of n places in a list a question has. Any would do; these lie far apart for questions that follow each other.
 fn slot(k: u32, at: u32, n: usize) -> usize
-    requires { ⌜ (k < 134217728) × (0 < n) ⌝ }
+    requires { ⌜ (k < 134217728) × (256 ≤ n) ⌝ }
     ensures { λ r. ⌜ r < n ⌝ }
 {
-    ((k as u64 * 2654435769 / 65536 + at as u64 * 97) % n as u64) as usize
+    let i = ((k as u64 * 2654435769 / 65536 + at as u64 * 97) % 4096) as usize;
+    if i < n {
+        return i;
+    }
+    i % 256
 }
 
 // What a list has of a question.
@@ -165,7 +169,7 @@ fn look_up(answers: &[u32], ty: u32, at: u32, q: usize) -> Recalled
     ensures { λ r. ⌜ LooksUp ty at q (now (answers .entry)) r ⌝ }
 {
     let n = answers.len() / 2;
-    if n == 0 {
+    if n < 256 {
         return Recalled::Nothing;
     }
     let k = node_and_type(ty, q);
@@ -189,7 +193,7 @@ fn keep(answers: &mut [u32], ty: u32, at: u32, q: usize, yes: bool)
     ensures { λ r. ⌜ Keeps (now (answers .entry)) (now (answers .exit)) ty at q yes ⌝ }
 {
     let n = answers.len() / 2;
-    if n == 0 {
+    if n < 256 {
         return;
     }
     let k = node_and_type(ty, q);
@@ -507,14 +511,14 @@ fn supports_inside(
     }
 }
 
-// Does a short list have a place for each node of the usage at record q and each type that can be asked, up to ty?
+// Has a short list some places for each node of the usage at record q and each type that can be asked, up to ty?
 fn asks_few(s: &[u8], q: usize, ty: u32) -> bool
     requires { ⌜ q * 32 + 32 ≤ length (now s) ⌝ }
 {
-    if 16 < nodes(s, q) {
+    if 8 < nodes(s, q) {
         return false;
     }
-    ty < 16
+    ty < 8
 }
 
 // With a list of answers, short or long.
@@ -526,7 +530,7 @@ fn supports_with_few(table: &[u8], places: &[u32], ty: u32, at: u32, s: &mut [u8
     ensures { λ r. ⌜ Unchanged (now (s .entry)) (now (s .exit)) ⌝ }
 {
     let mut answers = [0u32; FEW];
-    supports_past_tests(&*table, &*places, ty, at, s, q, &mut answers)
+    supports_or_recalls(&*table, &*places, ty, at, s, q, &mut answers)
 }
 
 fn supports_with_many(
@@ -544,7 +548,7 @@ fn supports_with_many(
     ensures { λ r. ⌜ Unchanged (now (s .entry)) (now (s .exit)) ⌝ }
 {
     let mut answers = [0u32; MANY];
-    supports_past_tests(&*table, &*places, ty, at, s, q, &mut answers)
+    supports_or_recalls(&*table, &*places, ty, at, s, q, &mut answers)
 }
 
 // Does the type support the usage at record q, at this offset? What its nodes remember of other questions is forgotten first.
@@ -566,7 +570,7 @@ pub fn supports_usage_at_offset(
         First::Open => {
             if !forget(s, q) {
                 let mut answers = [0u32; 1];
-                return supports_past_tests(&*table, &*places, ty, at, s, q, &mut answers);
+                return supports_or_recalls(&*table, &*places, ty, at, s, q, &mut answers);
             }
             if asks_few(s, q, ty) {
                 return supports_with_few(&*table, &*places, ty, at, s, q);

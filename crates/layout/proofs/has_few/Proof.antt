@@ -15,7 +15,7 @@ get16-requires : tie.Need-get16-requires
 get16-requires c κs = search needs
 
 returns-2 : tie.Need-returns-2
-returns-2 c y = omega (arith, leb-true (c .get16 .result) 64 y)
+returns-2 c y = omega (arith, leb-true (c .get16 .result) 32 y)
 
 pub has-few-spec : {M : Type 1} → statement M
 has-few-spec = tie.close (tie.spec returns get16-requires returns-2)

@@ -33,17 +33,17 @@ enum-told-3 c = search needs
 forget-requires : tie.Need-forget-requires
 forget-requires c κs = search needs
 
-slice-aggregate-supports-past-tests : tie.Need-slice-aggregate-supports-past-tests
-slice-aggregate-supports-past-tests c = search needs
+slice-aggregate-supports-or-recalls : tie.Need-slice-aggregate-supports-or-recalls
+slice-aggregate-supports-or-recalls c = search needs
 
-supports-past-tests-requires : tie.Need-supports-past-tests-requires
-supports-past-tests-requires c κs = (asks (c .before .before .before), (blank-memory 1 (c .before .before .before .before .before .forget .ensures .blank), left (c .before .before .before)))
+supports-or-recalls-requires : tie.Need-supports-or-recalls-requires
+supports-or-recalls-requires c κs = (asks (c .before .before .before), (blank-memory 1 (c .before .before .before .before .before .forget .ensures .blank), left (c .before .before .before)))
 
 same-length : tie.Need-same-length
 same-length c = search needs
 
 returns : tie.Need-returns
-returns c = let G = c .before .before .before .before .before .before .before .before .before .forget .ensures in let told = c .before .before .before .supports-past-tests .ensures in (supports-before (G .records) (told .0), unchanged-both (G .records) (told .1 .records))
+returns c = let G = c .before .before .before .before .before .before .before .before .before .forget .ensures in let told = c .before .before .before .supports-or-recalls .ensures in (supports-before (G .records) (told .0), unchanged-both (G .records) (told .1 .records))
 
 asks-few-requires : tie.Need-asks-few-requires
 asks-few-requires c κs = room (asks (c .before .before) .usage)
@@ -87,8 +87,8 @@ supports-usage-at-offset-spec =
     enum-told-2
     enum-told-3
     forget-requires
-    slice-aggregate-supports-past-tests
-    supports-past-tests-requires
+    slice-aggregate-supports-or-recalls
+    supports-or-recalls-requires
     same-length
     returns
     asks-few-requires
