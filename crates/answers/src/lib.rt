@@ -30,13 +30,14 @@ pub const SHORT_OUTPUT: u32 = 10;
 
 pub const SHORT_REPORT: u32 = 11;
 
-// What a call gives back as numbers: 0 for answered, or the refusal; a yes or no; the lengths written; the pairings.
+// What a call gives back as numbers: the lengths written; the pairings; 0 for answered, or the refusal; a yes or no. The widest stand
+// first, so that there is no gap between them.
 pub struct Answer {
-    pub number: u32,
-    pub yes: bool,
     pub usage: usize,
     pub report: usize,
     pub pairings: u32,
+    pub number: u32,
+    pub yes: bool,
 }
 
 pub fn refusal(number: u32) -> Answer
