@@ -4,31 +4,32 @@ ghost use Rattle.states.specs.Ends.{finishedState, finishedAt, refusedSt
 
 // What a placing, or a merge, has come to. The result stands from record 0 on.
 pub struct Outcome {
-    pub refusal: u32, // 0, or 8 or 9
     pub nodes: usize,
-    pub pairings: u32,
     pub at: usize, // where the report goes on
     pub finger: usize, // where an entry of the result begins, or 0: a search for what lies above may start there
+    pub refusal: u32, // 0, or 8 or 9
+    pub pairings: u32,
 }
 
-// What a placing has yet to do. A pair stands from record x on: n nodes, and then m nodes that go into them at d.
+// What a placing has yet to do. A pair stands from record x on: n nodes, and then m nodes that go into them at d. The widest fields
+// stand first: without a gap a state is copied in whole pieces.
 pub struct State {
-    pub refusal: u32,
-    pub todo: u32, // 0 finished, 1 place the pair, 2 merge it
-    pub rule: u32, // 2, 5 or 6
     pub x: usize,
     pub n: usize, // if finished, the nodes of the result, from record 0 on
-    pub d: u32,
     pub m: usize,
-    pub offset: u32, // rule 6: the offset of the pair's result
     pub rest: usize, // the nodes of the entries that come after this pair
     pub q: usize, // rule 2: where they begin; rule 6: where the entries above begin
     pub low: usize, // rule 6: the last of the entries below those that overlap, or 0
-    pub pairings: u32,
     pub base: usize, // where this placing's report began
     pub mark: usize, // rules 2 and 6: where the report stood before the pair's 31
     pub at: usize,
     pub finger: usize, // where an entry of the first of the pair begins, counted from x, or 0; if finished, of the result
+    pub refusal: u32,
+    pub todo: u32, // 0 finished, 1 place the pair, 2 merge it
+    pub rule: u32, // 2, 5 or 6
+    pub d: u32,
+    pub offset: u32, // rule 6: the offset of the pair's result
+    pub pairings: u32,
 }
 
 impl State {
