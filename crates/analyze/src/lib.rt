@@ -51,7 +51,7 @@ pub fn merge_mem_at(
         let x = st.x * 32;
         let e = (st.x + st.n + st.m) * 32;
         if st.todo == 2 {
-            let r = merge_mem(table, places, &mut s[x..e], st.n, st.m, rep, st.at);
+            let r = merge_mem(table, places, &mut s[x..e], st.n, st.m, rep, st.at, 0);
             st = settle(s, st, r, rep, total);
         } else {
             let r = merge_mem_at(
@@ -77,7 +77,8 @@ pub fn merge_mem_at(
     }
 }
 
-// The larger receives the other at 0; at equal sizes the stricter, and on a full tie the second.
+// The larger receives the other at 0; at equal sizes the stricter, and on a full tie the second. `from` as in `merge_mem_at`; it is of
+// no use where the second receives.
 pub fn merge_mem(
     table: &[u8],
     places: &[u32],
@@ -86,13 +87,16 @@ pub fn merge_mem(
     nb: usize,
     rep: &mut [u8],
     at: usize,
+    from: usize,
 ) -> Outcome
     requires { ⌜ Ready (now table) (now places) (now s) na nb ⌝ }
     requires { ⌜ Near at (na + nb) ⌝ }
+    requires { ⌜ Finger (now s) 0 na from ⌝ }
     ensures { λ r. ⌜ Placed merging (now (table .entry)) (now (places .entry)) (now (s .entry)) na nb (now (s .exit)) (r .refusal) (r .nodes) (r .pairings) (now (rep .entry)) at (now (rep .exit)) (r .at) ⌝ }
+    ensures { λ r. ⌜ Fingered (now (s .exit)) r ⌝ }
 {
     if first_receives(top(s, 0), top(s, na)) {
-        return merge_mem_at(table, places, s, na, 0, nb, rep, at, 0);
+        return merge_mem_at(table, places, s, na, 0, nb, rep, at, from);
     }
     exchange(s, na, nb);
     merge_mem_at(table, places, s, nb, 0, na, rep, at, 0)

@@ -16,7 +16,6 @@ use Rattle.states.specs.Fingers.{Finger}
 use Rattle.states.specs.States.{entries, Placing, Outside, Next, Short, Waiting, Moves}
 use Rattle.states.specs.Starts.{Beside, Starts}
 use Rattle.states.specs.declared.State.{State}
-use Rattle.states.proofs.Fingers.{no-finger}
 use Rattle.states.proofs.Roots.{IsMap, is-map, right-map}
 use Rattle.states.proofs.Room.{room-first}
 use Rattle.entries.specs.Rows.{Rows}
@@ -60,12 +59,12 @@ placing-start {s} {na} {nb} {es} at two =
       fits = two .right-fits .1;
     }
 
-pub waiting-start : (s : List ℕ) (na nb at : ℕ) → Beside s na nb → commandIn s na ≡ 3
-    → Waiting s (startState na nb at) na (na + nb) × (Rows s (startState na nb at) (na + nb) × Finger s 0 na 0)
+pub waiting-start : (s : List ℕ) (na nb at : ℕ) {from : ℕ} → Beside s na nb → commandIn s na ≡ 3 → Finger s 0 na from
+    → Waiting s (startState na nb at) na (na + nb) × (Rows s (startState na nb at) (na + nb) × Finger s 0 na from)
 unfolding Outside
-waiting-start s na nb at B e = go (right-map (B .two) e) (B .two)
+waiting-start s na nb at {from} B e F = go (right-map (B .two) e) (B .two)
   where
-    go : {b : Usage} → IsMap b → Two (B .k) s na nb (B .a) b → Waiting s (startState na nb at) na (na + nb) × (Rows s (startState na nb at) (na + nb) × Finger s 0 na 0)
+    go : {b : Usage} → IsMap b → Two (B .k) s na nb (B .a) b → Waiting s (startState na nb at) na (na + nb) × (Rows s (startState na nb at) (na + nb) × Finger s 0 na from)
     go (is-map z es) two =
         let W : Waiting s (startState na nb at) na (na + nb) = record {
           k = B .k;
@@ -83,7 +82,7 @@ waiting-start s na nb at B e = go (right-map (B .two) e) (B .two)
           len = two .len;
           small = B .small;
         } in
-        (W, (rows s (startState na nb at) na (na + nb) W refl, no-finger s 0 na))
+        (W, (rows s (startState na nb at) na (na + nb) W refl, F))
 
 -- what the steps then leave is what rule 2 gives
 pub starts : (s rep rep₁ s′ rep′ : List ℕ) (na nb at at₁ : ℕ) (st : State) → Beside s na nb → commandIn s na ≡ 3 → Emitted rep at (0x30 ∷ []) rep₁ at₁

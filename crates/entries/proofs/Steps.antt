@@ -16,10 +16,10 @@ use Rattle.records.proofs.Usages.{same-at, at-move, entries-move, root-of}
 use Rattle.report.specs.Emitted.{Emitted}
 use Rattle.report.proofs.Emitting.{emitted-after}
 use Rattle.states.specs.States.{Beyond, entries, finish, Outside, Standing, Pending, Next, Short, Waiting, Moves}
-use Rattle.states.specs.Ends.{finishedState, Unheaded}
+use Rattle.states.specs.Ends.{finishedAt, Unheaded}
 use Rattle.states.specs.Fingers.{Finger}
 use Rattle.states.specs.declared.State.{State}
-use Rattle.states.proofs.Ending.{numbers-finished, next-finished, emitted-unheaded}
+use Rattle.states.proofs.Ending.{numbers-finished, next-at, emitted-unheaded}
 use Rattle.states.proofs.Fingers.{finger-move}
 use Rattle.states.proofs.Outside.{Placings, placings, outside-2}
 use Rattle.entries.specs.Rows.{First, Rows}
@@ -60,27 +60,27 @@ entryState st n o m pairings mark at finger = record {
 }
 
 module _ (s rep : List ℕ) (st : State) (n p at total : ℕ) (W : Waiting s st n total) (R : Rows s st total) where
-  goes-none : {y : Beyond} (setting : Setting) → Placings (length (setting .table)) s st total y → (at′ : ℕ) → st .rest ≡ 0 → Unheaded (st .base) at at′
+  goes-none : {y : Beyond} (setting : Setting) → Placings (length (setting .table)) s st total y → (at′ finger : ℕ) → st .rest ≡ 0 → Unheaded (st .base) at at′ → Finger s (st .x) n finger
       → (u : Usage) (w : List ℕ) (q : ℕ) (rep₀ : List ℕ) (base : ℕ) → Standing (length (setting .table)) y u w q rep₀ base s rep st n p at total
-      → Short base (finish setting y u w q) → Next setting (finish setting y u w q) rep₀ base s rep (finishedState n p at′) total
-  goes-none setting (placings (entry o v es) h) at′ none-left U u w q rep₀ base S short = absurd (omega (arith, h .count, some-node v))
-  goes-none setting (placings none h) at′ none-left U u w q rep₀ base S short =
-      rw (finish-none setting u w q) (next-finished setting rep₀ base s rep total (done u (ofRule w) _) n p at′ (record {
+      → Short base (finish setting y u w q) → Next setting (finish setting y u w q) rep₀ base s rep (finishedAt n p at′ finger) total
+  goes-none setting (placings (entry o v es) h) at′ finger none-left U F u w q rep₀ base S short = absurd (omega (arith, h .count, some-node v))
+  goes-none setting (placings none h) at′ finger none-left U F u w q rep₀ base S short =
+      rw (finish-none setting u w q) (next-at setting rep₀ base s rep total (done u (ofRule w) _) n p at′ finger (record {
         answered = refl;
         offset = S .offset;
         stands = rw (R .start) at (S .stands);
         count = S .count;
         pairs = S .pairs;
         report = emitted-unheaded w (S .report) ((rw (finish-none setting u w q) at short) .0) (rw (S .based) at U);
-      }))
+      }) (rw (R .start) at F))
 
   -- no entry is left
-  pub next-none : (at′ : ℕ) (st′ : State) → st .rest ≡ 0 → Unheaded (st .base) at at′ → st′ ≡ finishedState n p at′ → Moves s rep st n p at total s rep st′
-  next-none at′ st′ none-left U e = rw e (record {
+  pub next-none : (at′ finger : ℕ) (st′ : State) → st .rest ≡ 0 → Unheaded (st .base) at at′ → Finger s (st .x) n finger → st′ ≡ finishedAt n p at′ finger → Moves s rep st n p at total s rep st′
+  next-none at′ finger st′ none-left U F e = rw e (record {
     numbers = numbers-finished n p at′ total (W .some) (omega (arith, W .less, W .high));
     fall = omega arith;
     next = λ setting y u w q rep₀ base S short.
-        goes-none setting (outside-2 (length (setting .table)) s st total y (R .rule) (S .outside)) at′ none-left U u w q rep₀ base S short;
+        goes-none setting (outside-2 (length (setting .table)) s st total y (R .rule) (S .outside)) at′ finger none-left U F u w q rep₀ base S short;
   })
 
   -- the entry at q has moved down

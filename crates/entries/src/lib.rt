@@ -42,7 +42,7 @@ pub fn next_entry(
     let q = st.q;
     let rest = st.rest;
     if rest == 0 {
-        return State::finished(n, pairings, without_heading(st.base, at));
+        return State::finished_at(n, pairings, without_heading(st.base, at), finger);
     }
     let m = entry_nodes(s, q, rest);
     let left = rest - m;
@@ -70,10 +70,18 @@ pub fn next_entry(
     }
 }
 
-// b, a map, is placed at 0 in a.
-pub fn begin_entries(s: &mut [u8], na: usize, nb: usize, rep: &mut [u8], at: usize) -> State
+// b, a map, is placed at 0 in a, which has the finger `from`.
+pub fn begin_entries(
+    s: &mut [u8],
+    na: usize,
+    nb: usize,
+    rep: &mut [u8],
+    at: usize,
+    from: usize,
+) -> State
     requires { ⌜ Beside (now s) na nb ⌝ }
     requires { ⌜ commandIn (now s) na ≡ 3 ⌝ }
+    requires { ⌜ Finger (now s) 0 na from ⌝ }
     ensures { λ r. ⌜ Starts (now (s .entry)) na 0 nb (now (rep .entry)) at (now (s .exit)) (now (rep .exit)) r ⌝ }
 {
     let st = State {
@@ -95,5 +103,5 @@ pub fn begin_entries(s: &mut [u8], na: usize, nb: usize, rep: &mut [u8], at: usi
         finger: 0,
     };
     let next = report::byte(rep, at, 0x30);
-    next_entry(s, st, na, 1, rep, next, 0, na + nb)
+    next_entry(s, st, na, 1, rep, next, from, na + nb)
 }

@@ -23,6 +23,8 @@ use Rattle.layout.specs.Places.{Known}
 use Rattle.report.specs.Emitted.{Emitted}
 use Rattle.report.proofs.Emitting.{emitted-nothing, emitted-after}
 use Rattle.states.specs.Calls.{Done}
+use Rattle.states.specs.Fingers.{Finger}
+use Rattle.states.proofs.Fingers.{no-finger}
 use Rattle.answers.specs.Writing.{Reached}
 use Rattle.folding.specs.Folding.{NodeReady, NodeLoaded, NextReady, ofNext, NextFolded, Foldable}
 use Rattle.folding.specs.declared.Folded.{Folded}
@@ -57,6 +59,7 @@ pub record Folding (st : Setting) (ns : Nodes) (list : List ℕ) (count : ℕ) (
   pub short : length w ≤ i * 2 ^ 22
   pub pairs : f .result .pairings ≡ p % 2 ^ 32
   pub report : Emitted rep₀ 0 w rep (f .result .at)
+  pub finger : Finger work 0 (f .result .nodes) (f .result .finger)
 
 -- The first node
 
@@ -82,7 +85,7 @@ module _ {table places list : List ℕ} {st : Setting} {ns : Nodes} (foldable : 
   pub fold-start : {work work₁ : List ℕ} {l : Loaded} (rep : List ℕ) {count : ℕ} → count ≡ getD list 1 0 + getD list 2 0 * 256
       → NodeLoaded list 3 work 0 work₁ l → Folding st ns list count rep work₁ rep (start l) 1
   unfolding fold
-  fold-start {l} rep e loaded =
+  fold-start {work₁} {l} rep e loaded =
       let all = list-behind list (foldable .is) .1 in
       let place : drop (l .end) list ≡ all .behind = loaded .behind (ns .first) (all .behind) (all .first-reads) in
       record {
@@ -106,6 +109,7 @@ module _ {table places list : List ℕ} {st : Setting} {ns : Nodes} (foldable : 
         short = omega arith;
         pairs = omega arith;
         report = emitted-nothing rep 0 (omega arith);
+        finger = no-finger work₁ 0 (l .nodes);
       }
 
 -- The next ones
@@ -140,6 +144,7 @@ module _ {st : Setting} {ns : Nodes} {list : List ℕ} {count : ℕ} {rep₀ wor
         few = omega arith;
         enough = enough;
         near = omega (arith, folding .report .place, folding .short, folding .turns);
+        finger = folding .finger;
       }
 
   module _ {table places : List ℕ} (known : Known table places st) (more : i < count) {work′ rep′ : List ℕ} {r : Folded} (next : NextFolded table places list i f work rep work′ rep′ r) where
@@ -211,6 +216,7 @@ module _ {st : Setting} {ns : Nodes} {list : List ℕ} {count : ℕ} {rep₀ wor
               short = omega (arith, short, folding .short, node-short i w, length-append (folding .w) (ofNode i w));
               pairs = omega (arith, D .pairs, folding .pairs);
               report = emitted-after (folding .report) (D .report);
+              finger = next .finger is0;
             }
 
   -- The end

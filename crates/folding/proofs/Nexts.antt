@@ -5,7 +5,7 @@ use Prim.Native.Nat.{ℕ, _+_, _-_, _*_, _%_, _^_, _<_, _≤_}
 use mathlib.Core.Path.{_≡_, refl}
 use mathlib.Core.List.{List, [], _∷_, _++_}
 use native.Mathlib.Omega.{arith}
-use lib.ListN.{length, drop}
+use lib.ListN.{length, take, drop}
 use Rattle.definitions.specs.Limits.{nodeLimit, workLimit}
 use Rattle.definitions.specs.Usage.{Usage, nodes}
 use Rattle.definitions.specs.Stream.{bytes}
@@ -13,11 +13,13 @@ use Rattle.definitions.specs.Table.{Setting}
 use Rattle.definitions.specs.Place.{Result, refused, done, mergeMem, ofNode}
 use Rattle.definitions.proofs.FewPairings.{mergeMem-few}
 use Rattle.records.specs.Records.{Same}
-use Rattle.records.proofs.Usages.{at-move}
-use Rattle.records.proofs.Parts.{same-left}
+use Rattle.records.proofs.Usages.{SameRun, at-move}
+use Rattle.records.proofs.Parts.{same-left, same-take}
 use Rattle.report.specs.Emitted.{Emitted}
 use Rattle.report.proofs.Emitting.{emitted-after, emitted-back, emitted-same}
 use Rattle.states.specs.Calls.{Two, Ready, Fine, Done, merging, Placed}
+use Rattle.states.specs.Fingers.{Finger, Fingered}
+use Rattle.states.proofs.Fingers.{finger-move}
 use Rattle.states.specs.declared.Outcome.{Outcome}
 use Rattle.folding.specs.Folding.{NodeReady, NodeLoaded, Beside, NextReady, ofNext, NextFolded}
 use Rattle.folding.specs.declared.Folded.{Folded}
@@ -67,16 +69,32 @@ module _ {table places list : List ℕ} {f : Folded} {work : List ℕ} (ready : 
       pub next-merges : Ready table places (lent (f .result .nodes) (next .nodes) work₁) (f .result .nodes) (next .nodes)
       next-merges = ready-lent (ready .beside .known) (next-two (ready .setting) (ready .a) (ready .b) (ready .rest) (ready .beside)) (omega (arith, next-few))
 
+      -- the finger is about records that are as they were
+      pub next-finger : Finger (lent (f .result .nodes) (next .nodes) work₁) 0 (f .result .nodes) (f .result .finger)
+      next-finger =
+          let all : (f .result .nodes + next .nodes) * 32 - 0 ≡ (f .result .nodes + next .nodes) * 32 = omega arith in
+          rw all (finger-move work₁ (take ((f .result .nodes + next .nodes) * 32) work₁) 0 0 (f .result .nodes) (f .result .finger) (λ j lt. same-take work₁ (f .result .nodes + next .nodes) (0 + j) (omega arith))
+          (finger-move work work₁ 0 0 (f .result .nodes) (f .result .finger) (λ j lt. loaded .kept (0 + j) (omega arith)) (ready .finger)))
+
+      -- the part's records are the work area's once it is back
+      result-back : (s′ : List ℕ) {n : ℕ} → length s′ ≡ length (lent (f .result .nodes) (next .nodes) work₁) → n ≤ f .result .nodes + next .nodes
+          → SameRun s′ 0 (back (f .result .nodes) (next .nodes) s′ work₁) 0 n
+      result-back s′ long few j lt =
+          let two = next-two (ready .setting) (ready .a) (ready .b) (ready .rest) (ready .beside) in
+          same-left s′ (drop ((f .result .nodes + next .nodes) * 32 - 0) work₁) (f .result .nodes + next .nodes) (0 + j) (omega (arith, two .len)) (omega arith)
+
       module _ {s′ : List ℕ} (i : ℕ) {rep rep₁ rep₂ : List ℕ} {at : ℕ} (r : Outcome) (long : length s′ ≡ length (lent (f .result .nodes) (next .nodes) work₁))
-          (placed : Placed merging table places (lent (f .result .nodes) (next .nodes) work₁) (f .result .nodes) (next .nodes) s′ (r .refusal) (r .nodes) (r .pairings) rep₁ at rep₂ (r .at)) where
+          (placed : Placed merging table places (lent (f .result .nodes) (next .nodes) work₁) (f .result .nodes) (next .nodes) s′ (r .refusal) (r .nodes) (r .pairings) rep₁ at rep₂ (r .at))
+          (fingered : Fingered s′ r) where
         pub next-folded : {p at′ : ℕ} → p ≡ (f .result .pairings + r .pairings) % 2 ^ 32
             → ((w : List ℕ) → length w < 2 ^ 61 → Emitted rep₁ at w rep₂ (r .at) → Emitted rep (f .result .at) (ofNode i w) rep₂ at′)
-            → NextFolded table places list i f work rep (back (f .result .nodes) (next .nodes) s′ work₁) rep₂ (record { end = next .end; result = record { refusal = r .refusal; nodes = r .nodes; pairings = p; at = at′; finger = 0 } })
+            → NextFolded table places list i f work rep (back (f .result .nodes) (next .nodes) s′ work₁) rep₂ (record { end = next .end; result = record { refusal = r .refusal; nodes = r .nodes; pairings = p; at = at′; finger = r .finger } })
         unfolding merging
         next-folded {p} {at′} sum report = record {
           merged = λ st a b rest beside. go st a b rest beside (mergeMem st a b) refl (placed .done st (beside .known) a b (next-two st a b rest beside));
           behind = loaded .behind;
           within = loaded .within;
+          finger = λ is0. finger-move s′ (back (f .result .nodes) (next .nodes) s′ work₁) 0 0 (r .nodes) (r .finger) (result-back s′ long (placed .few)) (fingered .of is0);
         }
           where
             go : (st : Setting) (a b : Usage) (rest : List ℕ) → Beside table places list f work st a b rest → (x : Result Usage) → mergeMem st a b ≡ x
@@ -85,13 +103,11 @@ module _ {table places list : List ℕ} {f : Folded} {work : List ℕ} (ready : 
             go st a b rest beside (refused n) e D = rw e at D
             go st a b rest beside (done u w q) e D =
                 let F : Fine u w q s′ (r .refusal) (r .nodes) (r .pairings) rep₁ at rep₂ (r .at) = rw e at D in
-                let two = next-two st a b rest beside in
                 let few = mergeMem-few st {m = nodeLimit} a b e (omega (arith, next-few, beside .counted, loaded .counted b rest (beside .reads))) in
                 record {
                   answered = F .answered;
                   offset = F .offset;
-                  stands = at-move u s′ (back (f .result .nodes) (next .nodes) s′ work₁) 0 0 (F .offset) (λ j lt.
-                      same-left s′ (drop ((f .result .nodes + next .nodes) * 32 - 0) work₁) (f .result .nodes + next .nodes) (0 + j) (omega (arith, two .len)) (omega (arith, F .count, placed .few))) (F .stands);
+                  stands = at-move u s′ (back (f .result .nodes) (next .nodes) s′ work₁) 0 0 (F .offset) (result-back s′ long (omega (arith, F .count, placed .few))) (F .stands);
                   count = F .count;
                   pairs = omega (arith, F .pairs);
                   report = report w (omega (arith, few .short-report)) (F .report);

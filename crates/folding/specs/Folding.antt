@@ -15,6 +15,7 @@ use Rattle.records.specs.Usages.{At}
 use Rattle.layout.specs.Places.{Known}
 use Rattle.transfer.specs.Loading.{KeptBelow}
 use Rattle.states.specs.Calls.{Done}
+use Rattle.states.specs.Fingers.{Finger}
 use Rattle.states.specs.declared.Outcome.{Outcome}
 use Rattle.answers.specs.Writing.{Reached}
 use Rattle.folding.specs.declared.Folded.{Folded}
@@ -58,6 +59,7 @@ pub record NextReady (table places list : List ℕ) (f : Folded) (work : List �
   pub few : nodes a + nodes b ≤ nodeLimit
   pub enough : workLimit ≤ length work
   pub near : f .result .at ≤ 2 ^ 61
+  pub finger : Finger work 0 (f .result .nodes) (f .result .finger)
 
 -- what merging the node with index i gives, behind p pairings
 abbrev pub ofNext : ℕ → ℕ → Result Usage → Result Usage
@@ -70,6 +72,7 @@ pub record NextFolded (table places list : List ℕ) (i : ℕ) (f : Folded) (wor
       → Done (ofNext i (f .result .pairings) (mergeMem st a b)) work′ (r .result .refusal) (r .result .nodes) (r .result .pairings) rep (f .result .at) rep′ (r .result .at)
   pub behind : (b : Usage) (rest : List ℕ) → readNode (drop (f .end) list) ≡ read b rest → drop (r .end) list ≡ rest
   pub within : r .end ≤ length list
+  pub finger : r .result .refusal ≡ 0 → Finger work′ 0 (r .result .nodes) (r .result .finger)
 
 -- the list's nodes are ns, few enough, with types of the table
 pub record Foldable (table places list : List ℕ) (st : Setting) (ns : Nodes) : Type 0 where

@@ -64,7 +64,16 @@ fn fold_next(
     let next = load_node(list, f.end, work, n);
     let at = of_node(rep, f.result.at, i);
     let e = (n + next.nodes) * 32;
-    let r = merge_mem(table, places, &mut work[0..e], n, next.nodes, rep, at);
+    let r = merge_mem(
+        table,
+        places,
+        &mut work[0..e],
+        n,
+        next.nodes,
+        rep,
+        at,
+        f.result.finger,
+    );
     Folded {
         end: next.end,
         result: Outcome {
@@ -72,7 +81,7 @@ fn fold_next(
             nodes: r.nodes,
             pairings: std::num::wrapping_add_u32(f.result.pairings, r.pairings),
             at: if r.at == at { f.result.at } else { r.at },
-            finger: 0,
+            finger: r.finger,
         },
     }
 }

@@ -100,7 +100,7 @@ fn begin_with(
     }
     if placed == 3 {
         if d == 0 {
-            return begin_entries(s, na, nb, rep, at);
+            return begin_entries(s, na, nb, rep, at, from);
         }
         return begin_into(table, places, s, na, d, nb, rep, at, from);
     }

@@ -161,7 +161,7 @@ pub fn merge(
     }
     load_both(first, t.first, second, t.second, work);
     let e = (t.first + t.second) * 32;
-    let r = merge_mem(table, places, &mut work[0..e], t.first, t.second, rep, 0);
+    let r = merge_mem(table, places, &mut work[0..e], t.first, t.second, rep, 0, 0);
     finish(top, r, work, output, rep)
 }
 

@@ -29,10 +29,14 @@ use records::tag;
 // The last number of 32 bits.
 const MAX: u32 = 4294967295;
 
-// The words of a list of answers, two for each: where few questions can be asked, and else.
-const FEW: usize = 512;
+// How many answers a short list has room for, and a long one; and their words, two for each answer.
+const SHORT: usize = 256;
 
-const MANY: usize = 8192;
+const LONG: usize = 4096;
+
+const SHORT_WORDS: usize = 512;
+
+const LONG_WORDS: usize = 8192;
 
 // What the first tests say: an answer, or that the components are asked, and then the usage itself.
 enum First {
@@ -156,11 +160,11 @@ fn slot(k: u32, at: u32, n: usize) -> usize
     requires { ⌜ (k < 134217728) × (256 ≤ n) ⌝ }
     ensures { λ r. ⌜ r < n ⌝ }
 {
-    let i = ((k as u64 * 2654435769 / 65536 + at as u64 * 97) % 4096) as usize;
+    let i = ((k as u64 * 2654435769 / 65536 + at as u64 * 97) % LONG as u64) as usize;
     if i < n {
         return i;
     }
-    i % 256
+    i % SHORT
 }
 
 // What a list has of a question.
@@ -169,7 +173,7 @@ fn look_up(answers: &[u32], ty: u32, at: u32, q: usize) -> Recalled
     ensures { λ r. ⌜ LooksUp ty at q (now (answers .entry)) r ⌝ }
 {
     let n = answers.len() / 2;
-    if n < 256 {
+    if n < SHORT {
         return Recalled::Nothing;
     }
     let k = node_and_type(ty, q);
@@ -193,7 +197,7 @@ fn keep(answers: &mut [u32], ty: u32, at: u32, q: usize, yes: bool)
     ensures { λ r. ⌜ Keeps (now (answers .entry)) (now (answers .exit)) ty at q yes ⌝ }
 {
     let n = answers.len() / 2;
-    if n < 256 {
+    if n < SHORT {
         return;
     }
     let k = node_and_type(ty, q);
@@ -529,7 +533,7 @@ fn supports_with_few(table: &[u8], places: &[u32], ty: u32, at: u32, s: &mut [u8
     ensures { λ r. ⌜ Supports (now (table .entry)) (now (places .entry)) ty at (now (s .entry)) q r ⌝ }
     ensures { λ r. ⌜ Unchanged (now (s .entry)) (now (s .exit)) ⌝ }
 {
-    let mut answers = [0u32; FEW];
+    let mut answers = [0u32; SHORT_WORDS];
     supports_or_recalls(&*table, &*places, ty, at, s, q, &mut answers)
 }
 
@@ -547,7 +551,7 @@ fn supports_with_many(
     ensures { λ r. ⌜ Supports (now (table .entry)) (now (places .entry)) ty at (now (s .entry)) q r ⌝ }
     ensures { λ r. ⌜ Unchanged (now (s .entry)) (now (s .exit)) ⌝ }
 {
-    let mut answers = [0u32; MANY];
+    let mut answers = [0u32; LONG_WORDS];
     supports_or_recalls(&*table, &*places, ty, at, s, q, &mut answers)
 }
 

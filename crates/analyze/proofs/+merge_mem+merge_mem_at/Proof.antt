@@ -64,7 +64,7 @@ merge-mem-first-receives-requires : (t : ℕ) → merge-mem-lts.Need-first-recei
 merge-mem-first-receives-requires t c κs = search needs
 
 merge-mem-merge-mem-at-requires : (t : ℕ) → merge-mem-lts.Need-merge-mem-at-requires (merge-mem-claims t) (merge-mem-at t) merge-mem.Post
-merge-mem-merge-mem-at-requires t c κs = search (no-finger, needs)
+merge-mem-merge-mem-at-requires t c κs = search needs
 
 merge-mem-same-length : (t : ℕ) → merge-mem-lts.Need-same-length (merge-mem-claims t) (merge-mem-at t) merge-mem.Post
 merge-mem-same-length t c = search needs
@@ -141,7 +141,7 @@ merge-mem-at-merge-mem-requires t c κs =
     let tested : _ = c .before .before .before .before .before .before .before in
     let turn : _ = tested .before .before in
     let start : _ = turn .before .before .before .before .before .before .before .before .before .before .before .before in
-    (omega (arith, turn .loop .inv .numbers .less, turn .loop .inv .numbers .fits, turn .loop .inv .numbers .high, tested .if1 .taken, start .pre .0), (pair-ready (turn .loop .inv) (tested .if1 .taken) refl refl refl, pair-near (turn .loop .inv) (tested .if1 .taken) refl refl refl))
+    (omega (arith, turn .loop .inv .numbers .less, turn .loop .inv .numbers .fits, turn .loop .inv .numbers .high, tested .if1 .taken, start .pre .0), (pair-ready (turn .loop .inv) (tested .if1 .taken) refl refl refl, (pair-near (turn .loop .inv) (tested .if1 .taken) refl refl refl, no-finger _ _ _)))
 
 merge-mem-at-settle-requires : (t : ℕ) → merge-mem-at-lts.Need-settle-requires (merge-mem-at-claims t) (merge-mem-at-at t) merge-mem-at′.Post merge-mem-at-Inv-loop merge-mem-at-μ-loop
 merge-mem-at-settle-requires t c κs =
@@ -150,7 +150,7 @@ merge-mem-at-settle-requires t c κs =
     let tested : _ = chosen .before .before .before .before .before in
     let known : _ = tested .before in
     let turn : _ = known .before in
-    pair-answered (turn .loop .inv) (tested .if1 .taken) refl refl refl _ (is-merging _ _ (chosen .if2 .taken)) (called .merge-mem .ensures) (called .merge-mem .kept .1 .1 .0) refl (omega (arith, known .struct-known .given))
+    pair-answered (turn .loop .inv) (tested .if1 .taken) refl refl refl _ (is-merging _ _ (chosen .if2 .taken)) (called .merge-mem .ensures .0) (called .merge-mem .kept .1 .1 .0) refl (omega (arith, known .struct-known .given))
     (λ rule _. absurd (merges-none (turn .loop .inv) (tested .if1 .taken) refl refl refl (chosen .if2 .taken) rule))
 
 merge-mem-at-loop-less : (t : ℕ) → merge-mem-at-lts.Need-loop-less (merge-mem-at-claims t) (merge-mem-at-at t) merge-mem-at′.Post merge-mem-at-Inv-loop merge-mem-at-μ-loop
@@ -167,7 +167,7 @@ merge-mem-at-loop-again t c =
     let tested : _ = chosen .before .before .before .before .before in
     let known : _ = tested .before in
     let turn : _ = known .before in
-    loop-again (turn .loop .inv) (tested .if1 .taken) refl refl refl _ (is-merging _ _ (chosen .if2 .taken)) (called .merge-mem .ensures) (called .merge-mem .kept .1 .1 .0) refl (omega (arith, known .struct-known .given)) (settled .settle .kept .0) (called .merge-mem .kept .1 .1 .1 .1 .1 .0) (settled .settle .kept .1 .1 .1 .0) (settled .settle .ensures)
+    loop-again (turn .loop .inv) (tested .if1 .taken) refl refl refl _ (is-merging _ _ (chosen .if2 .taken)) (called .merge-mem .ensures .0) (called .merge-mem .kept .1 .1 .0) refl (omega (arith, known .struct-known .given)) (settled .settle .kept .0) (called .merge-mem .kept .1 .1 .1 .1 .1 .0) (settled .settle .kept .1 .1 .1 .0) (settled .settle .ensures)
 
 merge-mem-at-sub-merge-mem-at : (t : ℕ) → merge-mem-at-lts.Need-sub-merge-mem-at (merge-mem-at-claims t) (merge-mem-at-at t) merge-mem-at′.Post merge-mem-at-Inv-loop merge-mem-at-μ-loop
 merge-mem-at-sub-merge-mem-at t c = search needs

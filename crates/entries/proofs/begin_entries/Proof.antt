@@ -8,8 +8,8 @@ use Rattle.entries.proofs.begin_entries.Tie as tie
 sub-next-entry : tie.Need-sub-next-entry
 sub-next-entry c = search needs
 
-add-t9 : tie.Need-add-t9
-add-t9 c = search needs
+add-t10 : tie.Need-add-t10
+add-t10 c = search needs
 
 byte-requires : tie.Need-byte-requires
 byte-requires c κs = search needs
@@ -18,7 +18,7 @@ add-next-entry : tie.Need-add-next-entry
 add-next-entry c = search needs
 
 next-entry-requires : tie.Need-next-entry-requires
-next-entry-requires c κs = waiting-start _ _ _ _ (search needs) (search needs)
+next-entry-requires c κs = waiting-start _ _ _ _ (search needs) (search needs) (search needs)
 
 same-length : tie.Need-same-length
 same-length c = search needs
@@ -34,7 +34,7 @@ begin-entries-spec =
     tie.close
     (tie.spec
     sub-next-entry
-    add-t9
+    add-t10
     byte-requires
     add-next-entry
     next-entry-requires

@@ -8,8 +8,8 @@ use Rattle.entries.proofs.next_entry.Tie as tie
 without-heading-requires : tie.Need-without-heading-requires
 without-heading-requires c κs = search needs
 
-finished-requires : tie.Need-finished-requires
-finished-requires c κs = search needs
+finished-at-requires : tie.Need-finished-at-requires
+finished-at-requires c κs = search needs
 
 returns : tie.Need-returns
 returns c = search (next-none, needs)
@@ -46,7 +46,7 @@ next-entry-spec =
     tie.close
     (tie.spec
     without-heading-requires
-    finished-requires
+    finished-at-requires
     returns
     entry-nodes-requires
     sub-left

@@ -3,7 +3,7 @@
 -- Assumes nothing.
 use native.Mathlib.Omega.{arith}
 use borrow.Author.Needs.{needs}
-use Rattle.folding.proofs.Nexts.{index-back, index-kept, next-node-ready, next-few, next-room, next-merges, next-folded}
+use Rattle.folding.proofs.Nexts.{index-back, index-kept, next-node-ready, next-few, next-room, next-merges, next-finger, next-folded}
 use Rattle.folding.proofs.fold_next.Statement.{statement}
 use Rattle.folding.proofs.fold_next.Tie as tie
 
@@ -32,7 +32,7 @@ merge-mem-requires : tie.Need-merge-mem-requires
 merge-mem-requires c κs =
     let load = c .before .before .before .before .before .before .before .before in
     let ready = load .before .before .before .before .before .before .before .pre in
-    (next-merges ready (load .load-node .ensures) (omega (arith, next-room ready (load .load-node .ensures), ready .enough)), omega (arith, next-few ready (load .load-node .ensures), ready .near, c .before .before .before .before .of-node .ensures .place))
+    (next-merges ready (load .load-node .ensures) (omega (arith, next-room ready (load .load-node .ensures), ready .enough)), (omega (arith, next-few ready (load .load-node .ensures), ready .near, c .before .before .before .before .of-node .ensures .place), next-finger ready (load .load-node .ensures) (omega (arith, next-room ready (load .load-node .ensures), ready .enough))))
 
 wrapping-add-u32-requires : tie.Need-wrapping-add-u32-requires
 wrapping-add-u32-requires c κs = search needs
@@ -48,7 +48,7 @@ returns c =
     let merge = c .before .before .before .before .before .before in
     let load = merge .before .before .before .before .before .before .before .before .before in
     let start = load .before .before .before .before .before .before .before in
-    next-folded (start .pre) (load .load-node .ensures) (omega (arith, next-room (start .pre) (load .load-node .ensures), start .pre .enough)) (start .args .i) (merge .merge-mem .result) (omega arith) (merge .merge-mem .ensures)
+    next-folded (start .pre) (load .load-node .ensures) (omega (arith, next-room (start .pre) (load .load-node .ensures), start .pre .enough)) (start .args .i) (merge .merge-mem .result) (omega arith) (merge .merge-mem .ensures .0) (merge .merge-mem .ensures .1)
     (c .before .wrapping-add-u32 .ensures) (index-back (start .args .i) (start .pre .near) (merge .before .before .before .before .before .of-node .ensures) (c .if1 .taken))
 
 same-length-3 : tie.Need-same-length-3
@@ -62,7 +62,7 @@ returns-2 c =
     let merge = c .before .before .before .before .before .before in
     let load = merge .before .before .before .before .before .before .before .before .before in
     let start = load .before .before .before .before .before .before .before in
-    next-folded (start .pre) (load .load-node .ensures) (omega (arith, next-room (start .pre) (load .load-node .ensures), start .pre .enough)) (start .args .i) (merge .merge-mem .result) (omega arith) (merge .merge-mem .ensures)
+    next-folded (start .pre) (load .load-node .ensures) (omega (arith, next-room (start .pre) (load .load-node .ensures), start .pre .enough)) (start .args .i) (merge .merge-mem .result) (omega arith) (merge .merge-mem .ensures .0) (merge .merge-mem .ensures .1)
     (c .before .wrapping-add-u32 .ensures) (index-kept (start .args .i) (start .pre .near) (merge .before .before .before .before .before .of-node .ensures) (c .if1 .left))
 
 pub fold-next-spec : {M : Type 1} → statement M

@@ -10,6 +10,7 @@ use Rattle.definitions.specs.Place.{Result}
 use Rattle.definitions.proofs.Written.{Bytes}
 use Rattle.states.specs.Calls.{merging}
 use Rattle.inputs.specs.Inputs.{Good, Met}
+use Rattle.states.proofs.Fingers.{no-finger}
 use Rattle.answers.specs.Writing.{Reached}
 use Rattle.serving.proofs.Pairs.{back, both, ready, merging-few, reaches}
 use Rattle.serving.proofs.Merging.{toldTop, merge-refused, first-some, second-some, opaque-first, merge-opaque, merge-unlike, ReadMerged, merge-alike, merge-gives}
@@ -147,7 +148,7 @@ part-merge-mem-end c = omega (arith, good (c .before .before .before .before .be
 merge-mem-requires : tie.Need-merge-mem-requires
 merge-mem-requires c κs =
     let e = c .before .before .before .before .before .before .before .before .before .before .before .before in
-    (ready (good e) (merged (c .before .before .before .before .before .before .before .before) .pair) (work-kept (c .before .before .before .before .before .before)) (c .before .before .before .before .before .before .load-both .ensures), omega (arith, good e .few))
+    (ready (good e) (merged (c .before .before .before .before .before .before .before .before) .pair) (work-kept (c .before .before .before .before .before .before)) (c .before .before .before .before .before .before .load-both .ensures), (omega (arith, good e .few), no-finger _ _ _))
 
 -- what the definition gives, which is what there is of it
 
@@ -159,7 +160,7 @@ comes c =
     let m = merged (c .before .before .before .before .before .before .before .before .before) .pair in
     let e = c .before .before .before .before .before .before .before .before .before .before .before .before .before in
     let r = c .merge-mem in
-    reaches (good e) m (work-kept (c .before .before .before .before .before .before .before)) (c .before .before .before .before .before .before .before .load-both .ensures) merging (merging-few (good e) m) (r .last .1 .1 .0) (search needs) (r .result) (r .ensures)
+    reaches (good e) m (work-kept (c .before .before .before .before .before .before .before)) (c .before .before .before .before .before .before .before .load-both .ensures) merging (merging-few (good e) m) (r .last .1 .1 .0) (search needs) (r .result) (r .ensures .0)
 
 finish-requires : tie.Need-finish-requires
 finish-requires c κs = record { result = answer (c .before .before .before .before .before .before .before); reached = comes (c .before .before .before .before .before .before .before) }
