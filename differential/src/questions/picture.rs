@@ -43,7 +43,7 @@ const SHAPES: [Shape; 7] = [
     Shape {
         name: "overlapping elements",
         colour: "#c2417c",
-        sizes: &[2, 3, 4, 6, 8, 10, 12, 14, 20, 30, 50, 100, 180, 250],
+        sizes: &[2, 3, 4, 6, 8, 10, 12, 14, 20, 30, 50, 100, 180, 220],
         question: |k| overlapping(k, k),
     },
     Shape {
