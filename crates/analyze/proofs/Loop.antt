@@ -1,9 +1,8 @@
--- The loop of a placing: whatever goal its first state stood for, each later one stands for too, since a turn places or merges the pending pair.
+-- The loop of a placing: whatever goal its first state stood for, each later one stands for too, since a turn goes on from what stands, or places or merges the pending pair.
 -- Assumes nothing.
 use Prim.Native.Nat.{ℕ, zero, suc, _+_, _-_, _*_, _≤_}
 use mathlib.Core.Path.{_≡_, refl, sym, _∙_}
 use mathlib.Core.List.{List, [], _∷_, _++_}
-use native.Mathlib.Decide.{decLt}
 use native.Mathlib.Omega.{arith}
 use lib.ListN.{length, take, drop, length-append}
 use Rattle.definitions.specs.Limits.{max32, nodeLimit}
@@ -14,12 +13,13 @@ use Rattle.definitions.proofs.Nodes.{some-node}
 use Rattle.layout.specs.Places.{Known}
 use Rattle.states.specs.Calls.{Ready, Near, placing, merging, Placed}
 use Rattle.states.specs.Fingers.{Finger, Fingered}
-use Rattle.states.specs.States.{Beyond, entries, element, joins, act, heading, entryHead, Numbers, Short, Pending, Next, Began, Waiting, Answered, Gave, Took, Settled, Outside}
+use Rattle.states.specs.States.{Beyond, entries, element, joins, act, heading, entryHead, Numbers, Short, Pending, Next, Began, Waiting, Moves, Gave, Took}
 use Rattle.states.specs.declared.State.{State}
 use Rattle.states.specs.declared.Outcome.{Outcome}
-use Rattle.states.proofs.Outside.{Placings, placings, outside-2}
 use Rattle.states.proofs.Room.{place-short}
-use Rattle.analyze.proofs.Pairs.{finger-part, two-part, finger-back, took, len-back}
+use Rattle.rules.specs.Settling.{Settled}
+use Rattle.rules.proofs.Settling.{settled-next, settled-numbers}
+use Rattle.analyze.proofs.Pairs.{finger-part, two-part, took, len-back}
 
 -- `alive` is for the goal that the call has at hand: with it the next call may be made
 pub record Loop (table places s₀ rep₀ : List ℕ) (st₀ : State) (at total : ℕ) (s rep : List ℕ) (st : State) : Type 0 where
@@ -84,11 +84,62 @@ near-pair : {setting : Setting} {goal : Result Usage} {repₑ : List ℕ} {at : 
     → Near at total → st .n + st .m + 1 ≤ total → Near (st .at) (st .n + st .m)
 near-pair Q near less = omega (arith, Q .report .place, headed (Q .y) (Q .w) (Q .o), Q .few, Q .room)
 
-module _ {table places s₀ s rep₀ rep : List ℕ} {st₀ st : State} {at total x e k : ℕ} (L : Loop table places s₀ rep₀ st₀ at total s rep st) (more : st .todo ≡ 0 → ⊥)
+-- Something stands, and a step goes on from it
+
+module _ {table places s₀ s rep₀ rep : List ℕ} {st₀ st : State} {at total : ℕ} (L : Loop table places s₀ rep₀ st₀ at total s rep st) (held : st .todo ≡ 1) where
+  pub loop-waits : Waiting s st total
+  loop-waits =
+      let H = L .alive .holds held in
+      let S = H .standing in
+      record {
+        k = length (L .setting .table);
+        y = H .y;
+        u = H .u;
+        offset = S .offset;
+        stands = S .stands;
+        count = S .count;
+        fits = S .fits;
+        finger = S .finger;
+        outside = S .outside;
+        some = L .numbers .some;
+        less = omega (arith, L .numbers .less);
+        within = omega (arith, L .numbers .fits);
+        high = L .numbers .high;
+        len = L .len;
+        small = L .small;
+      }
+
+  pub loop-step : {s₂ rep₂ : List ℕ} {st′ : State} → length s₂ ≡ length s → length rep₂ ≡ length rep → Moves s rep st total s₂ rep₂ st′
+      → Loop table places s₀ rep₀ st₀ at total s₂ rep₂ st′
+  loop-step {s₂} {rep₂} {st′} ls lr M = record {
+    numbers = M .numbers;
+    len = ls ∙ L .len;
+    same-len = ls ∙ L .same-len;
+    rep-len = lr ∙ L .rep-len;
+    some = L .some;
+    small = L .small;
+    near = L .near;
+    setting = L .setting;
+    known = L .known;
+    goal = L .goal;
+    repₑ = L .repₑ;
+    short = L .short;
+    alive = on (L .setting) (L .goal) (L .repₑ) (L .short) (L .alive);
+    next = λ setting known goal repₑ short N. on setting goal repₑ short (L .next setting known goal repₑ short N);
+  }
+    where
+      on : (setting : Setting) (goal : Result Usage) (repₑ : List ℕ) → Short at goal → Next setting goal repₑ at s rep st total → Next setting goal repₑ at s₂ rep₂ st′ total
+      on setting goal repₑ short X =
+          let H = X .holds held in
+          rw (H .comes) at (M .next setting (H .y) (H .u) (H .w) (H .p) repₑ at (H .standing) (rw (← H .comes) at short))
+
+-- A pair is pending, and is placed or merged
+
+module _ {table places s₀ s rep₀ rep : List ℕ} {st₀ st : State} {at total x e k : ℕ} (L : Loop table places s₀ rep₀ st₀ at total s rep st) (pair : 2 ≤ st .todo)
     (ex : x ≡ st .x * 32) (ee : e ≡ (st .x + st .n + st .m) * 32) (ek : k ≡ e - x) where
   pub pair-ready : Ready table places (take k (drop x s)) (st .n) (st .m)
   pair-ready =
-      let Q = L .alive .goes more in
+      let Q = L .alive .goes pair in
       record {
         setting = L .setting;
         known = L .known;
@@ -101,77 +152,42 @@ module _ {table places s₀ s rep₀ rep : List ℕ} {st₀ st : State} {at tota
       }
 
   pub pair-finger : Finger (take k (drop x s)) 0 (st .n) (st .finger)
-  pair-finger = finger-part x e k (L .alive .goes more) (L .numbers) (L .len) ex ee ek
-
-  -- rule 2 does not merge
-  pub merges-none : st .todo ≡ 2 → st .rule ≡ 2 → ⊥
-  merges-none two rule = let Q = L .alive .goes more in go (outside-2 (length (L .setting .table)) s st total (Q .y) rule (Q .outside))
-    where
-      go : {y : Beyond} → Placings (length (L .setting .table)) s st total y → ⊥
-      go (placings es h) = omega (arith, h .asks)
+  pair-finger = finger-part x e k (L .alive .goes pair) (L .numbers) (L .len) ex ee ek
 
   pub pair-near : Near (st .at) (st .n + st .m)
-  pair-near = near-pair (L .alive .goes more) (L .near) (omega (arith, L .numbers .less, L .numbers .high))
+  pair-near = near-pair (L .alive .goes pair) (L .near) (omega (arith, L .numbers .less, L .numbers .high))
 
   -- a turn, where the call's answer A is what the state asks for
-  module _ {y s₂ rep′ : List ℕ} (r : Outcome) {A : Setting → Usage → Usage → Result Usage} (is : (setting : Setting) (t u : Usage) → A setting t u ≡ act setting (st .todo) (st .d) t u)
-      (P : Placed A table places (take k (drop x s)) (st .n) (st .m) y (r .refusal) (r .nodes) (r .pairings) rep (st .at) rep′ (r .at))
+  module _ {y s₂ rep₂ : List ℕ} {r : Outcome} {A : Setting → Usage → Usage → Result Usage} (is : (setting : Setting) (t u : Usage) → A setting t u ≡ act setting (st .todo) (st .d) t u)
+      (P : Placed A table places (take k (drop x s)) (st .n) (st .m) y (r .refusal) (r .nodes) (r .pairings) rep (st .at) rep₂ (r .at)) (F : Fingered y r)
       (ly : length y ≡ length (take k (drop x s))) (back : s₂ ≡ take x s ++ (y ++ drop k (drop x s))) (d-fits : st .d ≤ max32) where
     took-pair : (setting : Setting) → Known table places setting → (goal : Result Usage) (repₑ : List ℕ) → Next setting goal repₑ at s rep st total
-        → Took setting goal repₑ at s₂ rep′ st r total
+        → Took setting goal repₑ at s₂ rep₂ st r total
     took-pair setting known goal repₑ X =
-        let Q = X .goes more in
-        took x e k Q (L .numbers) (L .len) ex ee ek y s₂ rep′ r ly back (P .few) (omega (arith, L .near)) d-fits
+        let Q = X .goes pair in
+        took x e k Q (L .numbers) (L .len) ex ee ek y s₂ rep₂ r ly back (P .few) (omega (arith, L .near)) d-fits (F .of)
         (rw (is setting (Q .t) (Q .u)) at (P .done setting known (Q .t) (Q .u) (two-part x e k Q (L .numbers) (L .len) ex ee ek)))
 
     long : length s₂ ≡ total * 32
-    long = len-back x e k (L .alive .goes more) (L .numbers) (L .len) ex ee ek y s₂ rep′ r ly back (P .few) (omega (arith, L .near)) d-fits
+    long = len-back x e k (L .alive .goes pair) (L .numbers) (L .len) ex ee ek y s₂ rep₂ r ly back (P .few) (omega (arith, L .near)) d-fits (F .of)
 
-    awake : 1 ≤ st .todo
-    awake = elim (decLt 0 (st .todo)) [
-      | yes v ↦ v
-      | no v ↦ absurd (more (omega arith))
-    ]
-
-    pub pair-answered : (st .rule ≡ 2 → r .refusal ≡ 0 → Finger y 0 (r .nodes) (r .finger)) → Answered s₂ st r total
-    pair-answered F =
-        let T = took-pair (L .setting) (L .known) (L .goal) (L .repₑ) (L .alive) in
-        record {
-          some = L .some;
-          waits = λ z. go (T .x) (T .y) (T .o) (T .w) (T .p) (T .gave) (T .outside) z;
-          finger = λ z rule. finger-back x e k (L .alive .goes more) (L .numbers) (L .len) ex ee ek y s₂ rep′ r ly back (P .few) (omega (arith, L .near)) d-fits (F rule z);
-        }
+    -- refused, or something stands
+    something : 1 ≤ r .nodes + r .refusal
+    something = let T = took-pair (L .setting) (L .known) (L .goal) (L .repₑ) (L .alive) in go (T .x) (T .y) (T .o) (T .w) (T .p) (T .gave)
       where
-        go : (v : Result Usage) (y′ : Beyond) (o : ℕ) (w : List ℕ) (p : ℕ) → Gave (length (L .setting .table)) y′ o w p (L .repₑ) at v s₂ rep′ st r
-            → Outside (length (L .setting .table)) y′ s₂ st total → r .refusal ≡ 0 → Waiting s₂ st (r .nodes) total
-        go (refused n) y′ o w p G outside z = absurd (omega (arith, G .0, G .1))
-        go (done u w′ p′) y′ o w p G outside z = record {
-          k = length (L .setting .table);
-          y = y′;
-          u = u;
-          offset = G .offset;
-          stands = G .stands;
-          count = G .count;
-          fits = G .fits;
-          outside = outside;
-          some = omega (arith, G .count, some-node u);
-          less = omega (arith, P .few, L .numbers .less, awake);
-          within = omega (arith, P .few, L .numbers .fits);
-          high = L .numbers .high;
-          len = long;
-          small = L .small;
-        }
+        go : (v : Result Usage) (y′ : Beyond) (o : ℕ) (w : List ℕ) (p : ℕ) → Gave (length (L .setting .table)) y′ o w p (L .repₑ) at v s₂ rep₂ st r → 1 ≤ r .nodes + r .refusal
+        go (refused n) y′ o w p G = omega (arith, G .0, G .1)
+        go (done u w′ p′) y′ o w p G = omega (arith, G .count, some-node u)
 
-    pub loop-again : {s₃ rep₃ : List ℕ} {st′ : State} → length s₃ ≡ length s₂ → length rep′ ≡ length rep → length rep₃ ≡ length rep′
-        → Settled s₂ rep′ st r total s₃ rep₃ st′ → Loop table places s₀ rep₀ st₀ at total s₃ rep₃ st′
-    loop-again {s₃} {rep₃} {st′} l₃ lr lr₃ S =
-        let step : (setting : Setting) → Known table places setting → (goal : Result Usage) (repₑ : List ℕ) → Short at goal → Next setting goal repₑ at s rep st total
-        → Next setting goal repₑ at s₃ rep₃ st′ total = λ setting known goal repₑ short X. S .next setting goal repₑ at (took-pair setting known goal repₑ X) short in
+    pub loop-again : {st′ : State} → length rep₂ ≡ length rep → Settled st r st′ → Loop table places s₀ rep₀ st₀ at total s₂ rep₂ st′
+    loop-again {st′} lr D =
+        let step : (setting : Setting) → Known table places setting → (goal : Result Usage) (repₑ : List ℕ) → Next setting goal repₑ at s rep st total
+        → Next setting goal repₑ at s₂ rep₂ st′ total = λ setting known goal repₑ X. settled-next D (took-pair setting known goal repₑ X) in
         record {
-          numbers = S .numbers;
-          len = l₃ ∙ long;
-          same-len = l₃ ∙ long ∙ sym (L .len) ∙ L .same-len;
-          rep-len = lr₃ ∙ lr ∙ L .rep-len;
+          numbers = settled-numbers D (L .numbers) (L .some) pair something (P .few);
+          len = long;
+          same-len = long ∙ sym (L .len) ∙ L .same-len;
+          rep-len = lr ∙ L .rep-len;
           some = L .some;
           small = L .small;
           near = L .near;
@@ -180,18 +196,19 @@ module _ {table places s₀ s rep₀ rep : List ℕ} {st₀ st : State} {at tota
           goal = L .goal;
           repₑ = L .repₑ;
           short = L .short;
-          alive = step (L .setting) (L .known) (L .goal) (L .repₑ) (L .short) (L .alive);
-          next = λ setting known goal repₑ short N. step setting known goal repₑ short (L .next setting known goal repₑ short N);
+          alive = step (L .setting) (L .known) (L .goal) (L .repₑ) (L .alive);
+          next = λ setting known goal repₑ short N. step setting known goal repₑ (L .next setting known goal repₑ short N);
         }
 
 -- the two calls that a state asks for
 
-pub is-merging : (todo d : ℕ) → todo ≡ 2 → (setting : Setting) (t u : Usage) → merging setting t u ≡ act setting todo d t u
+pub is-merging : (todo d : ℕ) → todo ≡ 3 → (setting : Setting) (t u : Usage) → merging setting t u ≡ act setting todo d t u
 unfolding merging act
 is-merging todo d e setting t u = rw e
 
-pub is-placing : (todo d : ℕ) → todo ≤ 2 → (todo ≡ 2 → ⊥) → (setting : Setting) (t u : Usage) → placing d setting t u ≡ act setting todo d t u
+pub is-placing : (todo d : ℕ) → todo ≤ 3 → (todo ≡ 3 → ⊥) → (setting : Setting) (t u : Usage) → placing d setting t u ≡ act setting todo d t u
 unfolding placing act
 is-placing zero d le ne setting t u = refl
 is-placing (suc zero) d le ne setting t u = refl
-is-placing (suc (suc n)) d le ne setting t u = absurd (ne (omega arith))
+is-placing (suc (suc zero)) d le ne setting t u = refl
+is-placing (suc (suc (suc n))) d le ne setting t u = absurd (ne (omega arith))

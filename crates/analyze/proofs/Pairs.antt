@@ -51,7 +51,10 @@ act-gives st k zero d t u le ht hu q =
 act-gives st k (suc zero) d t u le ht hu q =
     let b = within-bounded (place-within st t d u) q in
     record { fits = place-storable st k t d u ht hu le q; few-nodes = b .few-nodes; paid = b .paid; short = b .short-report }
-act-gives st k (suc (suc n)) d t u le ht hu q =
+act-gives st k (suc (suc zero)) d t u le ht hu q =
+    let b = within-bounded (place-within st t d u) q in
+    record { fits = place-storable st k t d u ht hu le q; few-nodes = b .few-nodes; paid = b .paid; short = b .short-report }
+act-gives st k (suc (suc (suc n))) d t u le ht hu q =
     let b = within-bounded (mergeMem-within st t u) q in
     record { fits = mergeMem-storable st k t u ht hu q; few-nodes = b .few-nodes; paid = b .paid; short = b .short-report }
 
@@ -94,7 +97,7 @@ module _ {setting : Setting} {goal : Result Usage} {rep₀ : List ℕ} {base : �
       }
 
   module _ (y s₂ rep′ : List ℕ) (r : Outcome) (ly : length y ≡ length (take k (drop x s))) (back : s₂ ≡ take x s ++ (y ++ drop k (drop x s))) (few : r .nodes ≤ st .n + st .m)
-      (near : base < 2 ^ 63) (d-fits : st .d ≤ max32) where
+      (near : base < 2 ^ 63) (d-fits : st .d ≤ max32) (F : r .refusal ≡ 0 → Finger y 0 (r .nodes) (r .finger)) where
     long : length y ≡ (st .n + st .m) * 32
     long = ly ∙ two-part .len
 
@@ -102,9 +105,6 @@ module _ {setting : Setting} {goal : Result Usage} {rep₀ : List ℕ} {base : �
     part-back i lt =
         same-at y s₂ i (st .x + i) (0 + i) (st .x + i) (omega arith) refl
         (rw back (same-back s y x k (st .x) (st .n + st .m) i ex (omega (arith, within)) (omega (arith, long)) (omega arith)))
-
-    pub finger-back : Finger y 0 (r .nodes) (r .finger) → Finger s₂ (st .x) (r .nodes) (r .finger)
-    finger-back = finger-move y s₂ 0 (st .x) (r .nodes) (r .finger) part-back
 
     gave : (z : Result Usage) → act setting (st .todo) (st .d) (Q .t) (Q .u) ≡ z → Done z y (r .refusal) (r .nodes) (r .pairings) rep (st .at) rep′ (r .at)
         → Gave (length (setting .table)) (Q .y) (Q .o) (Q .w) (Q .p) rep₀ base z s₂ rep′ st r
@@ -122,6 +122,7 @@ module _ {setting : Setting} {goal : Result Usage} {rep₀ : List ℕ} {base : �
           short = G .short;
           room = omega (arith, Q .room, G .paid, spare-more (Q .y) (nodes v) (nodes (Q .t) + nodes (Q .u)) (G .few-nodes));
           report = emitted-after (Q .report) (D .report);
+          finger = finger-move y s₂ 0 (st .x) (r .nodes) (r .finger) part-back (F (D .answered));
         }
 
     pub took : Done (act setting (st .todo) (st .d) (Q .t) (Q .u)) y (r .refusal) (r .nodes) (r .pairings) rep (st .at) rep′ (r .at)

@@ -12,6 +12,7 @@ use records::exchange;
 use records::max_size;
 use rules::begin;
 use rules::settle;
+use rules::step;
 use states::Outcome;
 
 // The root at record q, without its argument.
@@ -48,24 +49,37 @@ pub fn merge_mem_at(
     let total = na + nb;
     let mut st = begin(table, places, s, na, d, nb, rep, at, from);
     while st.todo != 0 {
-        let x = st.x * 32;
-        let e = (st.x + st.n + st.m) * 32;
-        if st.todo == 2 {
-            let r = merge_mem(table, places, &mut s[x..e], st.n, st.m, rep, st.at, 0);
-            st = settle(s, st, r, rep, total);
+        if st.todo == 1 {
+            st = step(s, st, rep, total);
         } else {
-            let r = merge_mem_at(
-                table,
-                places,
-                &mut s[x..e],
-                st.n,
-                st.d,
-                st.m,
-                rep,
-                st.at,
-                st.finger,
-            );
-            st = settle(s, st, r, rep, total);
+            let x = st.x * 32;
+            let e = (st.x + st.n + st.m) * 32;
+            if st.todo == 3 {
+                let r = merge_mem(
+                    table,
+                    places,
+                    &mut s[x..e],
+                    st.n,
+                    st.m,
+                    rep,
+                    st.at,
+                    st.finger,
+                );
+                st = settle(st, r);
+            } else {
+                let r = merge_mem_at(
+                    table,
+                    places,
+                    &mut s[x..e],
+                    st.n,
+                    st.d,
+                    st.m,
+                    rep,
+                    st.at,
+                    st.finger,
+                );
+                st = settle(st, r);
+            }
         }
     }
     Outcome {

@@ -43,8 +43,9 @@ module _ (s rep : List ℕ) (na d nb at : ℕ) (B : Beside s na nb) (plain : Pla
         numbers = numbers-element (na - 1) nb (d % argumentIn s 0) at (na + nb) (omega (arith, two-left)) (B .right-some) (omega (arith, two-left));
         next = λ setting a b two short. record {
           ends = λ z. absurd (omega (arith, some-todo (d % argumentIn s 0)));
-          goes = λ _. go setting (m .1) (left-array two is) b two;
           finger = λ z. absurd (omega (arith, some-todo (d % argumentIn s 0)));
+          holds = λ z. absurd (omega (arith, some-todo (d % argumentIn s 0)));
+          goes = λ _. go setting (m .1) (left-array two is) b two;
         };
       })
     where
@@ -68,8 +69,9 @@ module _ (s rep : List ℕ) (na d nb at : ℕ) (B : Beside s na nb) (plain : Pla
         numbers = numbers-element (na - 1) (nb - 1) 0 at (na + nb) (omega (arith, two-left)) (omega arith) (omega (arith, two-left));
         next = λ setting a b two short. record {
           ends = λ z. absurd (omega arith);
-          goes = λ _. go setting m (left-array two is) (right-array two command) two;
           finger = λ z. absurd (omega arith);
+          holds = λ z. absurd (omega arith);
+          goes = λ _. go setting m (left-array two is) (right-array two command) two;
         };
       })
     where

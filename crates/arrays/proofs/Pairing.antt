@@ -17,7 +17,7 @@ use Rattle.states.proofs.Room.{room-first}
 use Rattle.arrays.specs.Arrays.{elementTodo, elementState}
 use Rattle.arrays.proofs.Elements.{resume-element}
 
-pub some-todo : (r : ℕ) → (1 ≤ elementTodo r) × (elementTodo r ≤ 2)
+pub some-todo : (r : ℕ) → (2 ≤ elementTodo r) × (elementTodo r ≤ 3)
 some-todo zero = omega arith
 some-todo (suc r) = omega arith
 

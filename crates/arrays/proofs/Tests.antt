@@ -21,7 +21,7 @@ fits-fixed r n stride le = go (leb (r + n) stride) refl
     go true e = le-leb n (stride - r) (omega (arith, leb-true (r + n) stride e)) ∙ sym e
     go false e = lt-leb n (stride - r) (omega (arith, leb-false (r + n) stride e)) ∙ sym e
 
-pub todo-later : (r : ℕ) → (r ≡ 0 → ⊥) → 1 ≡ elementTodo r
+pub todo-later : (r : ℕ) → (r ≡ 0 → ⊥) → 2 ≡ elementTodo r
 todo-later zero ne = absurd (ne refl)
 todo-later (suc r) ne = refl
 

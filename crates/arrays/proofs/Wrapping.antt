@@ -18,23 +18,23 @@ use Rattle.states.proofs.Ending.{numbers-finished, next-finished}
 use Rattle.states.proofs.Outside.{Arounds, arounds, outside-5}
 use Rattle.arrays.specs.Arrays.{Wrapped}
 
-pub wrapped : (s s₁ : List ℕ) (st : State) (n p at : ℕ) (st′ : State) → Counted s s₁ 0 (n + 1) → st′ ≡ finishedState (n + 1) p at → Wrapped s st n p at s₁ st′
+pub wrapped : (s s₁ : List ℕ) (st st′ : State) → Counted s s₁ 0 (st .n + 1) → st′ ≡ finishedState (st .n + 1) (st .pairings) (st .at) → Wrapped s st s₁ st′
 unfolding finish At
-wrapped s s₁ st n p at st′ C e = rw e (record {
+wrapped s s₁ st st′ C e = rw e (record {
   moves = λ rep total W rule. record {
-    numbers = numbers-finished (n + 1) p at total (omega arith) (omega (arith, W .less, W .high));
+    numbers = numbers-finished (st .n + 1) (st .pairings) (st .at) total (omega arith) (omega (arith, W .less, W .high));
     fall = omega arith;
     next = λ setting y u w q rep₀ base S short. go rep total setting (outside-5 (length (setting .table)) s st total y rule (S .outside)) u w q rep₀ base S;
   };
 })
   where
     go : (rep : List ℕ) (total : ℕ) (setting : Setting) {y : Beyond} → Arounds s st y → (u : Usage) (w : List ℕ) (q : ℕ) (rep₀ : List ℕ) (base : ℕ)
-        → Standing (length (setting .table)) y u w q rep₀ base s rep st n p at total
-        → Next setting (finish setting y u w q) rep₀ base s₁ rep (finishedState (n + 1) p at) total
+        → Standing (length (setting .table)) y u w q rep₀ base s rep st total
+        → Next setting (finish setting y u w q) rep₀ base s₁ rep (finishedState (st .n + 1) (st .pairings) (st .at)) total
     go rep total setting (arounds z k h) u w q rep₀ base S =
-        let u-count : nodes u ≡ n = S .count in
+        let u-count : nodes u ≡ st .n = S .count in
         let own : 1 + q ≡ suc q = omega arith in
-        next-finished setting rep₀ base s₁ rep total (done (array z k u) w (1 + q)) (n + 1) p at (record {
+        next-finished setting rep₀ base s₁ rep total (done (array z k u) w (1 + q)) (st .n + 1) (st .pairings) (st .at) (record {
           answered = refl;
           offset = offsetIn s 0;
           stands = (
@@ -53,6 +53,5 @@ wrapped s s₁ st n p at st′ C e = rw e (record {
         })
 
 -- for a caller, who knows the report and the end
-pub wrapped-moves : (s s′ rep : List ℕ) (st st′ : State) (n p at total : ℕ) → Waiting s st n total → st .rule ≡ 5 → Wrapped s st n p at s′ st′
-    → Moves s rep st n p at total s′ rep st′
-wrapped-moves s s′ rep st st′ n p at total W rule X = X .moves rep total W rule
+pub wrapped-moves : (s s′ rep : List ℕ) (st st′ : State) (total : ℕ) → Waiting s st total → st .rule ≡ 5 → Wrapped s st s′ st′ → Moves s rep st total s′ rep st′
+wrapped-moves s s′ rep st st′ total W rule X = X .moves rep total W rule

@@ -36,8 +36,8 @@ Meets s na d Apart = Longer s na d false
 
 -- at 0 the pair is merged
 abbrev pub elementTodo : ℕ → ℕ
-elementTodo zero = 2
-elementTodo (suc r) = 1
+elementTodo zero = 3
+elementTodo (suc r) = 2
 
 -- n nodes from record 1 on, and m that go into them at r
 abbrev pub elementState : ℕ → ℕ → ℕ → ℕ → State
@@ -61,5 +61,5 @@ elementState n m r at = record {
 }
 
 -- rule 5's array stands around what its element has become; nothing is reported here
-pub record Wrapped (s : List ℕ) (st : State) (n pairings at : ℕ) (s′ : List ℕ) (st′ : State) : Type 0 where
-  pub moves : (rep : List ℕ) (total : ℕ) → Waiting s st n total → st .rule ≡ 5 → Moves s rep st n pairings at total s′ rep st′
+pub record Wrapped (s : List ℕ) (st : State) (s′ : List ℕ) (st′ : State) : Type 0 where
+  pub moves : (rep : List ℕ) (total : ℕ) → Waiting s st total → st .rule ≡ 5 → Moves s rep st total s′ rep st′

@@ -82,9 +82,9 @@ fn todo_at(r: u32) -> u32
     ensures { λ t. ⌜ t ≡ elementTodo r ⌝ }
 {
     if r == 0 {
-        return 2;
+        return 3;
     }
-    1
+    2
 }
 
 // The element, at record 1, and b, or b's element, are a pair of n and m nodes.
@@ -140,11 +140,12 @@ pub fn begin_array(s: &mut [u8], na: usize, d: u32, nb: usize, rep: &mut [u8], a
     }
 }
 
-// The element has become n nodes.
-pub fn next_element(s: &mut [u8], st: State, n: usize, pairings: u32, at: usize) -> State
-    requires { ⌜ (32 ≤ length (now s)) × (n < 65536) ⌝ }
-    ensures { λ r. ⌜ Wrapped (now (s .entry)) st n pairings at (now (s .exit)) r ⌝ }
+// The element has become what stands at record 1.
+pub fn next_element(s: &mut [u8], st: State) -> State
+    requires { ⌜ (32 ≤ length (now s)) × (st .n < 65536) ⌝ }
+    ensures { λ r. ⌜ Wrapped (now (s .entry)) st (now (s .exit)) r ⌝ }
 {
+    let n = st.n;
     put_nodes(s, 0, n + 1);
-    State::finished(n + 1, pairings, at)
+    State::finished(n + 1, st.pairings, st.at)
 }

@@ -25,7 +25,7 @@ module _ (st : Setting) where
       ap (λ (x : Result Usage). after [] 1 (headed x)) (sym (after-both w (ofEntry o w′) p p′ (placeEntries st (place st) u es)))
 
   pub resume-entry : (o : ℕ) (t u : Usage) (es : Entries) (w : List ℕ) (p : ℕ)
-      → resume st (entries es) o w p (act st 1 o t u) ≡ finish st (entries (entry o u es)) t w p
+      → resume st (entries es) o w p (act st 2 o t u) ≡ finish st (entries (entry o u es)) t w p
   unfolding finish act
   resume-entry o t u es w p = resume-of es o w p (place st t o u)
 

@@ -17,7 +17,6 @@ use Rattle.report.specs.Emitted.{Emitted}
 use Rattle.report.proofs.Emitting.{emitted-after}
 use Rattle.states.specs.States.{Beyond, entries, finish, Outside, Standing, Pending, Next, Short, Waiting, Moves}
 use Rattle.states.specs.Ends.{finishedAt, Unheaded}
-use Rattle.states.specs.Fingers.{Finger}
 use Rattle.states.specs.declared.State.{State}
 use Rattle.states.proofs.Ending.{numbers-finished, next-at, emitted-unheaded}
 use Rattle.states.proofs.Fingers.{finger-move}
@@ -32,70 +31,70 @@ first-count (entry o u es) s q n h e some =
     let root : Root u _ s q o = root-of u s q o (h .0) .1 in
     record { some = omega (arith, root .nodes, some-node u); few = omega (arith, root .nodes) }
 
-pub rows : (s : List ℕ) (st : State) (n total : ℕ) → Waiting s st n total → st .rule ≡ 2 → Rows s st total
-rows s st n total W e = go (outside-2 (W .k) s st total (W .y) e (W .outside))
+pub rows : (s : List ℕ) (st : State) (total : ℕ) → Waiting s st total → st .rule ≡ 2 → Rows s st total
+rows s st total W e = go (outside-2 (W .k) s st total (W .y) e (W .outside))
   where
     go : {y : Beyond} → Placings (W .k) s st total y → Rows s st total
     go (placings es h) = record { rule = e; start = h .start; ends = h .ends; first = first-count es s (st .q) (st .rest) (h .held) (h .count) }
 
--- the state for the next entry, of m nodes at o: the report stood at `mark` before its 31
-abbrev pub entryState : State → ℕ → ℕ → ℕ → ℕ → ℕ → ℕ → ℕ → State
-entryState st n o m pairings mark at finger = record {
+-- the state for the next entry, of m nodes at o; the report goes on behind its 31
+abbrev pub entryState : State → ℕ → ℕ → ℕ → State
+entryState st o m at = record {
   refusal = 0;
-  todo = 1;
+  todo = 2;
   rule = 2;
   x = 0;
-  n = n;
+  n = st .n;
   d = o;
   m = m;
   offset = 0;
   rest = st .rest - m;
   q = st .q + m;
   low = 0;
-  pairings = pairings;
+  pairings = st .pairings;
   base = st .base;
-  mark = mark;
+  mark = st .at;
   at = at;
-  finger = finger;
+  finger = st .finger;
 }
 
-module _ (s rep : List ℕ) (st : State) (n p at total : ℕ) (W : Waiting s st n total) (R : Rows s st total) where
-  goes-none : {y : Beyond} (setting : Setting) → Placings (length (setting .table)) s st total y → (at′ finger : ℕ) → st .rest ≡ 0 → Unheaded (st .base) at at′ → Finger s (st .x) n finger
-      → (u : Usage) (w : List ℕ) (q : ℕ) (rep₀ : List ℕ) (base : ℕ) → Standing (length (setting .table)) y u w q rep₀ base s rep st n p at total
-      → Short base (finish setting y u w q) → Next setting (finish setting y u w q) rep₀ base s rep (finishedAt n p at′ finger) total
-  goes-none setting (placings (entry o v es) h) at′ finger none-left U F u w q rep₀ base S short = absurd (omega (arith, h .count, some-node v))
-  goes-none setting (placings none h) at′ finger none-left U F u w q rep₀ base S short =
-      rw (finish-none setting u w q) (next-at setting rep₀ base s rep total (done u (ofRule w) _) n p at′ finger (record {
+module _ (s rep : List ℕ) (st : State) (total : ℕ) (W : Waiting s st total) (R : Rows s st total) where
+  goes-none : {y : Beyond} (setting : Setting) → Placings (length (setting .table)) s st total y → (at′ : ℕ) → st .rest ≡ 0 → Unheaded (st .base) (st .at) at′
+      → (u : Usage) (w : List ℕ) (q : ℕ) (rep₀ : List ℕ) (base : ℕ) → Standing (length (setting .table)) y u w q rep₀ base s rep st total
+      → Short base (finish setting y u w q) → Next setting (finish setting y u w q) rep₀ base s rep (finishedAt (st .n) (st .pairings) at′ (st .finger)) total
+  goes-none setting (placings (entry o v es) h) at′ none-left U u w q rep₀ base S short = absurd (omega (arith, h .count, some-node v))
+  goes-none setting (placings none h) at′ none-left U u w q rep₀ base S short =
+      rw (finish-none setting u w q) (next-at setting rep₀ base s rep total (done u (ofRule w) _) (st .n) (st .pairings) at′ (st .finger) (record {
         answered = refl;
         offset = S .offset;
         stands = rw (R .start) at (S .stands);
         count = S .count;
         pairs = S .pairs;
         report = emitted-unheaded w (S .report) ((rw (finish-none setting u w q) at short) .0) (rw (S .based) at U);
-      }) (rw (R .start) at F))
+      }) (rw (R .start) at (S .finger)))
 
   -- no entry is left
-  pub next-none : (at′ finger : ℕ) (st′ : State) → st .rest ≡ 0 → Unheaded (st .base) at at′ → Finger s (st .x) n finger → st′ ≡ finishedAt n p at′ finger → Moves s rep st n p at total s rep st′
-  next-none at′ finger st′ none-left U F e = rw e (record {
-    numbers = numbers-finished n p at′ total (W .some) (omega (arith, W .less, W .high));
+  pub next-none : (at′ : ℕ) (st′ : State) → st .rest ≡ 0 → Unheaded (st .base) (st .at) at′ → st′ ≡ finishedAt (st .n) (st .pairings) at′ (st .finger) → Moves s rep st total s rep st′
+  next-none at′ st′ none-left U e = rw e (record {
+    numbers = numbers-finished (st .n) (st .pairings) at′ total (W .some) (omega (arith, W .less, W .high));
     fall = omega arith;
     next = λ setting y u w q rep₀ base S short.
-        goes-none setting (outside-2 (length (setting .table)) s st total y (R .rule) (S .outside)) at′ finger none-left U F u w q rep₀ base S short;
+        goes-none setting (outside-2 (length (setting .table)) s st total y (R .rule) (S .outside)) at′ none-left U u w q rep₀ base S short;
   })
 
   -- the entry at q has moved down
-  module _ (s₁ rep₁ : List ℕ) (m o at′ finger : ℕ) (some : st .rest ≡ 0 → ⊥) (em : m ≡ countIn s (st .q)) (eo : o ≡ offsetIn s (st .q))
-      (M : Moved s s₁ n (st .q) m) (F : Finger s (st .x) n finger) (E : Emitted rep at (0x31 ∷ bytes 4 o) rep₁ at′) where
+  module _ (s₁ rep₁ : List ℕ) (m o at′ : ℕ) (some : st .rest ≡ 0 → ⊥) (em : m ≡ countIn s (st .q)) (eo : o ≡ offsetIn s (st .q))
+      (M : Moved s s₁ (st .n) (st .q) m) (E : Emitted rep (st .at) (0x31 ∷ bytes 4 o) rep₁ at′) where
     goes-more : {y : Beyond} (setting : Setting) → Placings (length (setting .table)) s st total y → (u : Usage) (w : List ℕ) (q : ℕ) (rep₀ : List ℕ) (base : ℕ)
-        → Standing (length (setting .table)) y u w q rep₀ base s rep st n p at total
-        → Pending setting (finish setting y u w q) rep₀ base s₁ rep₁ (entryState st n o m p at at′ finger) total
+        → Standing (length (setting .table)) y u w q rep₀ base s rep st total
+        → Pending setting (finish setting y u w q) rep₀ base s₁ rep₁ (entryState st o m at′) total
     unfolding At Outside
     goes-more setting (placings none h) u w q rep₀ base S = absurd (some (omega (arith, h .count)))
     goes-more setting (placings (entry o′ v es) h) u w q rep₀ base S =
         let root : Root v _ s (st .q) o′ = root-of v s (st .q) o′ (h .held .0) .1 in
         let same-offset : o ≡ o′ = eo ∙ root .offset in
         let v-count : nodes v ≡ m = sym (root .nodes) ∙ sym em in
-        let u-count : nodes u ≡ n = S .count in
+        let u-count : nodes u ≡ st .n = S .count in
         record {
           y = entries es;
           o = o;
@@ -109,7 +108,7 @@ module _ (s rep : List ℕ) (st : State) (n p at total : ℕ) (W : Waiting s st 
           t-count = u-count;
           t-fits = S .fits;
           u-offset = o′;
-          u-stands = at-move v s s₁ (st .q) (0 + n) o′ (λ i lt. same-at s s₁ (st .q + i) (n + i) (st .q + i) (0 + n + i) refl (omega arith) (M .moved i (omega arith))) (h .held .0);
+          u-stands = at-move v s s₁ (st .q) (0 + st .n) o′ (λ i lt. same-at s s₁ (st .q + i) (st .n + i) (st .q + i) (0 + st .n + i) refl (omega arith) (M .moved i (omega arith))) (h .held .0);
           u-count = v-count;
           u-fits = h .fits .2;
           pairs = S .pairs;
@@ -118,7 +117,7 @@ module _ (s rep : List ℕ) (st : State) (n p at total : ℕ) (W : Waiting s st 
           based = S .based;
           mark = S .report .place;
           report = emitted-after (S .report) E;
-          finger = finger-move s s₁ 0 0 n finger (λ i lt. M .below (0 + i) (omega arith)) (rw (R .start) at F);
+          finger = finger-move s s₁ 0 0 (st .n) (st .finger) (λ i lt. M .below (0 + i) (omega arith)) (rw (R .start) at (S .finger));
           outside = record {
             rule = refl;
             asks = omega arith;
@@ -131,7 +130,7 @@ module _ (s rep : List ℕ) (st : State) (n p at total : ℕ) (W : Waiting s st 
           };
         }
 
-    pub next-more : Moves s rep st n p at total s₁ rep₁ (entryState st n o m p at at′ finger)
+    pub next-more : Moves s rep st total s₁ rep₁ (entryState st o m at′)
     next-more =
         let first : First s (st .q) (st .rest) = R .first some in
         record {
@@ -146,7 +145,8 @@ module _ (s rep : List ℕ) (st : State) (n p at total : ℕ) (W : Waiting s st 
           fall = omega arith;
           next = λ setting y u w q rep₀ base S short. record {
             ends = λ z. absurd (omega arith);
-            goes = λ _. goes-more setting (outside-2 (length (setting .table)) s st total y (R .rule) (S .outside)) u w q rep₀ base S;
             finger = λ z. absurd (omega arith);
+            holds = λ z. absurd (omega arith);
+            goes = λ _. goes-more setting (outside-2 (length (setting .table)) s st total y (R .rule) (S .outside)) u w q rep₀ base S;
           };
         }

@@ -2,11 +2,10 @@
 ghost use mathlib.Core.Path.{_≡_};
 ghost use Prim.Native.Nat.{_+_, _*_, _≤_};
 ghost use lib.ListN.{length};
-ghost use Rattle.records.specs.Records.{commandIn, countIn};
-ghost use Rattle.states.specs.Fingers.{Finger};
+ghost use Rattle.records.specs.Records.{countIn};
 ghost use Rattle.states.specs.States.{Waiting, Moves};
-ghost use Rattle.states.specs.Starts.{Beside, Starts};
 ghost use Rattle.entries.specs.Rows.{First, Rows};
+ghost use Rattle.entries.specs.Begun.{Begun};
 use records::move_down;
 use records::nodes;
 use records::offset;
@@ -22,37 +21,27 @@ fn entry_nodes(s: &[u8], q: usize, rest: usize) -> usize
     nodes(s, q)
 }
 
-// The result so far stands at 0, with n nodes; the next entry comes beside it. It goes above the last, so that one's finger is
-// handed on.
-pub fn next_entry(
-    s: &mut [u8],
-    st: State,
-    n: usize,
-    pairings: u32,
-    rep: &mut [u8],
-    at: usize,
-    finger: usize,
-    total: usize,
-) -> State
-    requires { ⌜ Waiting (now s) st n total ⌝ }
+// The result so far stands at 0; the next entry comes beside it. It goes above the last, so that one's finger is handed on.
+pub fn next_entry(s: &mut [u8], st: State, rep: &mut [u8], total: usize) -> State
+    requires { ⌜ Waiting (now s) st total ⌝ }
     requires { ⌜ Rows (now s) st total ⌝ }
-    requires { ⌜ Finger (now s) (st .x) n finger ⌝ }
-    ensures { λ r. ⌜ Moves (now (s .entry)) (now (rep .entry)) st n pairings at total (now (s .exit)) (now (rep .exit)) r ⌝ }
+    ensures { λ r. ⌜ Moves (now (s .entry)) (now (rep .entry)) st total (now (s .exit)) (now (rep .exit)) r ⌝ }
 {
+    let n = st.n;
     let q = st.q;
     let rest = st.rest;
     if rest == 0 {
-        return State::finished_at(n, pairings, without_heading(st.base, at), finger);
+        return State::finished_at(n, st.pairings, without_heading(st.base, st.at), st.finger);
     }
     let m = entry_nodes(s, q, rest);
     let left = rest - m;
     let after = q + m;
     let o = offset(s, q);
     move_down(s, n, q, m);
-    let next = report::of_entry(rep, at, o);
+    let next = report::of_entry(rep, st.at, o);
     State {
         refusal: 0,
-        todo: 1,
+        todo: 2,
         rule: 2,
         x: 0,
         n: n,
@@ -62,31 +51,23 @@ pub fn next_entry(
         rest: left,
         q: after,
         low: 0,
-        pairings: pairings,
+        pairings: st.pairings,
         base: st.base,
-        mark: at,
+        mark: st.at,
         at: next,
-        finger: finger,
+        finger: st.finger,
     }
 }
 
-// b, a map, is placed at 0 in a, which has the finger `from`.
-pub fn begin_entries(
-    s: &mut [u8],
-    na: usize,
-    nb: usize,
-    rep: &mut [u8],
-    at: usize,
-    from: usize,
-) -> State
-    requires { ⌜ Beside (now s) na nb ⌝ }
-    requires { ⌜ commandIn (now s) na ≡ 3 ⌝ }
-    requires { ⌜ Finger (now s) 0 na from ⌝ }
-    ensures { λ r. ⌜ Starts (now (s .entry)) na 0 nb (now (rep .entry)) at (now (s .exit)) (now (rep .exit)) r ⌝ }
+// b, a map of nb nodes behind a's na, is placed at 0 in a, which has the finger `from`: a is the result so far.
+pub fn begin_entries(na: usize, nb: usize, rep: &mut [u8], at: usize, from: usize) -> State
+    requires { ⌜ (1 ≤ nb) × (na + nb ≤ 65536) ⌝ }
+    ensures { λ r. ⌜ Begun na nb (now (rep .entry)) at from (now (rep .exit)) r ⌝ }
 {
-    let st = State {
+    let here = report::byte(rep, at, 0x30);
+    State {
         refusal: 0,
-        todo: 0,
+        todo: 1,
         rule: 2,
         x: 0,
         n: na,
@@ -98,10 +79,8 @@ pub fn begin_entries(
         low: 0,
         pairings: 1,
         base: at,
-        mark: at,
-        at: at,
-        finger: 0,
-    };
-    let next = report::byte(rep, at, 0x30);
-    next_entry(s, st, na, 1, rep, next, from, na + nb)
+        mark: here,
+        at: here,
+        finger: from,
+    }
 }

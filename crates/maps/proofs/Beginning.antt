@@ -17,11 +17,12 @@ use Rattle.records.specs.Usages.{At, EntriesAt}
 use Rattle.records.proofs.Usages.{same-at, at-move, entries-move}
 use Rattle.report.specs.Emitted.{Emitted}
 use Rattle.states.specs.Calls.{Two}
-use Rattle.states.specs.States.{joins, joinDown, finish, UpTo, FromOn, Joins, Outside, Short, Next, Waiting, Moves}
+use Rattle.states.specs.States.{joins, joinDown, finish, UpTo, FromOn, Joins, Outside}
 use Rattle.states.specs.Starts.{Beside, Plain, Starts}
 use Rattle.states.specs.Ends.{refusedState}
 use Rattle.states.specs.declared.State.{State}
 use Rattle.states.proofs.Ending.{numbers-refused, next-refused}
+use Rattle.states.proofs.Fingers.{no-finger}
 use Rattle.states.proofs.Roots.{IsMap, is-map, left-map, left-size, right-size, right-plain}
 use Rattle.states.proofs.Room.{room-first}
 use Rattle.search.specs.Numbers.{Marks}
@@ -30,11 +31,10 @@ use Rattle.search.specs.Parts.{Ended, nothing, by, Parted, Parts}
 use Rattle.search.specs.declared.Overlap.{Overlap}
 use Rattle.search.proofs.Behind.{append-assoc}
 use Rattle.maps.specs.Numbers.{Past}
-use Rattle.maps.specs.Joining.{Turned, Rows}
+use Rattle.maps.specs.Joining.{Turned}
 use Rattle.maps.proofs.Entries.{under-of, upto-one-more}
 use Rattle.maps.proofs.Overlaps.{Starting, high-starting, found-past, found-parts}
 use Rattle.maps.proofs.Downward.{join-down}
-use Rattle.maps.proofs.Stepping.{rows-of}
 
 -- a is a map, and its entries stand behind its record
 record Mapped (k : ℕ) (a : Usage) (s : List ℕ) (na : ℕ) : Type 0 where
@@ -122,10 +122,10 @@ module _ {s : List ℕ} {na d nb e : ℕ} (rep : List ℕ) (at : ℕ) {st : Stat
 
 -- Begun
 
-abbrev pub startState : Overlap → ℕ → ℕ → ℕ → State
-startState found d nb at = record {
+abbrev pub startState : Overlap → ℕ → ℕ → ℕ → ℕ → State
+startState found d nb base at = record {
   refusal = 0;
-  todo = 0;
+  todo = 1;
   rule = 6;
   x = found .upto;
   n = nb;
@@ -136,21 +136,21 @@ startState found d nb at = record {
   q = found .upto + nb;
   low = found .low;
   pairings = 1;
-  base = at;
+  base = base;
   mark = at;
   at = at;
   finger = 0;
 }
 
 -- s₁: b has come to stand behind the entries that overlap
-module _ (s s₁ : List ℕ) (na d nb at e : ℕ) (found : Overlap) {r : Bool} (small : d < 4294967296) (P : Plain (commandIn s na) d) (c : commandIn s 0 ≡ 3) (M : Marks e (ends d (sizeIn s na)))
+module _ (s s₁ : List ℕ) (na d nb at next e : ℕ) (found : Overlap) {r : Bool} (small : d < 4294967296) (P : Plain (commandIn s na) d) (c : commandIn s 0 ≡ 3) (M : Marks e (ends d (sizeIn s na)))
     (T : Past e r) (t : r ≡ false) (F : Parts s 1 na d e found) (fine : found .past ≡ false) (X : Turned s s₁ (found .upto) (na - found .upto) nb) where
   record Begun (k : ℕ) (a b : Usage) : Type 0 where
     z : Size
     low : Entries
     mid : Entries
     high : Entries
-    outside : Joins k z low mid high d s₁ (startState found d nb at) (na + nb)
+    outside : Joins k z low mid high d s₁ (startState found d nb at next) (na + nb)
     offset : ℕ
     stands : At b s₁ (found .upto) offset
     comes : (setting : Setting) → finish setting (joins z low mid high d) b [] 0 ≡ after [] 1 (placeByKind setting (place setting) a d b)
@@ -210,46 +210,42 @@ module _ (s s₁ : List ℕ) (na d nb at e : ℕ) (found : Overlap) {r : Bool} (
       let N : Marks e (ends d (size b)) = rw (right-size two) at M in
       begun-from two A N (F .parted (ends d (size b)) (A .es) N (A .held) (A .count))
 
-  pub begun-waits : Beside s na nb → length s₁ ≡ length s → Waiting s₁ (startState found d nb at) nb (na + nb) × Rows s₁ (startState found d nb at) (na + nb)
+  pub begun-starts : {rep rep′ : List ℕ} → Beside s na nb → Emitted rep at (0x30 ∷ []) rep′ next → Starts s na d nb rep at s₁ rep′ (startState found d nb at next)
   unfolding Outside
-  begun-waits B len =
-      let G = begun (B .two) in
-      let W : Waiting s₁ (startState found d nb at) nb (na + nb) = record {
-        k = B .k;
-        y = joins (G .z) (G .low) (G .mid) (G .high) d;
-        u = B .b;
-        offset = G .offset;
-        stands = G .stands;
-        count = B .two .right-nodes;
-        fits = B .two .right-fits;
-        outside = G .outside;
-        some = B .right-some;
-        less = omega (arith, F .some, F .mid);
-        within = omega arith;
-        high = omega (arith, F .high);
-        len = len ∙ B .two .len;
-        small = B .small;
-      } in
-      (W, rows-of s₁ (startState found d nb at) nb (na + nb) W refl)
-
-  pub begun-starts : {rep rep₁ s′ rep′ : List ℕ} {next : ℕ} {st′ : State} → Beside s na nb → Emitted rep at (0x30 ∷ []) rep₁ next
-      → Moves s₁ rep₁ (startState found d nb at) nb 1 next (na + nb) s′ rep′ st′ → Starts s na d nb rep at s′ rep′ st′
-  unfolding Outside
-  begun-starts {rep} {s′} {rep′} {st′} B E D = record {
-    numbers = D .numbers;
+  begun-starts B E = record {
+    numbers = record {
+      todo = omega arith;
+      less = omega (arith, F .some, F .mid);
+      fits = omega arith;
+      high = omega (arith, F .high);
+      some = B .right-some;
+      more = omega arith;
+    };
     next = λ setting a b two short.
         let G = begun two in
-        let goal = G .comes setting in
-        subst (λ x. Next setting x rep at s′ rep′ st′ (na + nb)) goal (D .next setting (joins (G .z) (G .low) (G .mid) (G .high) d) b [] 0 rep at (record {
-          offset = G .offset;
-          stands = G .stands;
-          count = two .right-nodes;
-          fits = two .right-fits;
-          pairs = omega arith;
-          few = omega arith;
-          room = omega (arith, room-first b (map (G .z) (G .mid)) (omega (arith, two .right-nodes, B .small, G .outside .mid-count, G .outside .mid-ends, F .high)));
-          based = refl;
-          report = E;
-          outside = G .outside;
-        }) (subst (Short at) (sym goal) short));
+        record {
+          ends = λ z. absurd (omega arith);
+          finger = λ z. absurd (omega arith);
+          holds = λ _. record {
+            y = joins (G .z) (G .low) (G .mid) (G .high) d;
+            u = b;
+            w = [];
+            p = 0;
+            comes = G .comes setting;
+            standing = record {
+              offset = G .offset;
+              stands = G .stands;
+              count = two .right-nodes;
+              fits = two .right-fits;
+              pairs = omega arith;
+              few = omega arith;
+              room = omega (arith, room-first b (map (G .z) (G .mid)) (omega (arith, two .right-nodes, B .small, G .outside .mid-count, G .outside .mid-ends, F .high)));
+              based = refl;
+              report = E;
+              finger = no-finger s₁ (found .upto) nb;
+              outside = G .outside;
+            };
+          };
+          goes = λ z. absurd (omega arith);
+        };
   }

@@ -26,10 +26,10 @@ module _ {s : List ℕ} {l x o d y z : ℕ} (M : Marks y (ends o (sizeIn s l))) 
   unfolding if_then_else_ intoEntry
   entry-takes lt le = record { comes = λ st u b w p eu eb. rw (ne-eqb o d (omega arith), lt-ltb o d lt, eu, eb, marks-le (ends d (sizeIn s x)) (ends o (sizeIn s l)) N M le) }
 
-  pub b-takes : d < o → y ≤ z → Joint s l x o d (intoB 1 o d)
+  pub b-takes : d < o → y ≤ z → Joint s l x o d (intoB 2 o d)
   unfolding if_then_else_ intoB act
   b-takes lt le = record { comes = λ st u b w p eu eb. rw (ne-eqb o d (omega arith), le-ltb o d (omega arith), eu, eb, marks-le (ends o (sizeIn s l)) (ends d (sizeIn s x)) M N le) }
 
-pub b-merges : (s : List ℕ) (l x o d : ℕ) → o ≤ d → d ≤ o → Joint s l x o d (intoB 2 o d)
+pub b-merges : (s : List ℕ) (l x o d : ℕ) → o ≤ d → d ≤ o → Joint s l x o d (intoB 3 o d)
 unfolding if_then_else_ intoB act
 b-merges s l x o d le ge = record { comes = λ st u b w p eu eb. rw (eq-eqb o d (omega arith), mergeMem-is st b u) }

@@ -26,17 +26,17 @@ use Rattle.maps.proofs.Inserting.{insert-between}
 use Rattle.maps.proofs.Replacing.{Behind, last-kept}
 use Rattle.maps.proofs.Stepping.{by-joins, taken, finish-joint}
 
-pub straddled : {s rep : List ℕ} {st : State} {l pairings total : ℕ} {s′ rep′ : List ℕ} {st′ : State} {o all next : ℕ} → o ≡ offsetIn s l → Closed s l (st .q) total s′ all
-    → Emitted rep (st .base) (straddleConflict o (st .offset)) rep′ next → st′ ≡ finishedState all pairings next → Straddled s rep st l pairings total s′ rep′ st′
+pub straddled : {s rep : List ℕ} {st : State} {l total : ℕ} {s′ rep′ : List ℕ} {st′ : State} {o all next : ℕ} → o ≡ offsetIn s l → Closed s l (st .q) total s′ all
+    → Emitted rep (st .base) (straddleConflict o (st .offset)) rep′ next → st′ ≡ finishedState all (st .pairings) next → Straddled s rep st l total s′ rep′ st′
 straddled {all} {next} e C E f = record { all = all; next = next; closed = C; state = f; report = rw e at E }
 
-pub straddles : (s rep : List ℕ) (st : State) (n pairings at total l : ℕ) {s′ rep′ : List ℕ} {st′ : State} → Waiting s st n total → Rows s st total → LastAt s (st .x - st .rest) (st .x) l
-    → Joint s l (st .x) (offsetIn s l) (st .offset) (apart (offsetIn s l) (st .offset)) → Straddled s rep st l pairings total s′ rep′ st′ → Moves s rep st n pairings at total s′ rep′ st′
+pub straddles : (s rep : List ℕ) (st : State) (total l : ℕ) {s′ rep′ : List ℕ} {st′ : State} → Waiting s st total → Rows s st total → LastAt s (st .x - st .rest) (st .x) l
+    → Joint s l (st .x) (offsetIn s l) (st .offset) (apart (offsetIn s l) (st .offset)) → Straddled s rep st l total s′ rep′ st′ → Moves s rep st total s′ rep′ st′
 unfolding apart
-straddles s rep st n pairings at total l {s′} {rep′} W R L Jt T = rw (T .state) (record {
-  numbers = numbers-finished (T .all) pairings (T .next) total (omega (arith, T .closed .count, L .low, R .above)) (omega (arith, T .closed .count, W .within, W .high, L .high));
+straddles s rep st total l {s′} {rep′} W R L Jt T = rw (T .state) (record {
+  numbers = numbers-finished (T .all) (st .pairings) (T .next) total (omega (arith, T .closed .count, L .low, R .above)) (omega (arith, T .closed .count, W .within, W .high, L .high));
   fall = omega arith;
-  next = by-joins _ _ _ _ _ _ _ _ _ _ (R .rule) (λ setting z low mid high b w p rep₀ base S J short.
+  next = by-joins _ _ _ _ _ _ _ (R .rule) (λ setting z low mid high b w p rep₀ base S J short.
       let o : ℕ = offsetIn s l in
       let A = taken J L in
       let init : Entries = A .init in
@@ -45,7 +45,7 @@ straddles s rep st n pairings at total l {s′} {rep′} W R L Jt T = rw (T .sta
       finish-joint setting z b (S .offset) w p A (S .stands) Jt ∙ finish-straddled setting z low high init (straddleConflict o d) p in
       let fits = rw goal at short in
       let front : 1 + nodesIn (low <+> init) ≡ l = omega (arith, append-nodes low init, A .init-count) in
-      rw goal (next-finished setting rep₀ base s′ rep′ total (after [] 1 (done (map z (low <+> init <+> high)) (straddleConflict o d) p)) (T .all) pairings (T .next) (record {
+      rw goal (next-finished setting rep₀ base s′ rep′ total (after [] 1 (done (map z (low <+> init <+> high)) (straddleConflict o d) p)) (T .all) (st .pairings) (T .next) (record {
         answered = refl;
         offset = offsetIn s 0;
         stands = rw append-assoc at (T .closed .made z (low <+> init) high (J .command) (J .sized) (entries-join low init s 1 (J .low-held) (A .init-held)) front (J .high-held) (J .high-ends));
@@ -56,9 +56,9 @@ straddles s rep st n pairings at total l {s′} {rep′} W R L Jt T = rw (T .sta
 })
 
 -- s₁: b has its offset; s₂: it has moved to `to`; s₃: the entries above have closed up
-module _ (s s₁ s₂ s₃ : List ℕ) (st : State) (n pairings at total to q all next : ℕ) (W : Waiting s st n total) (R : Rows s st total) (e : st .rest ≡ 0)
-    (G : GoesAt s (st .low) (st .x) (st .offset) to) (H : GoesOn s (st .q) total (st .offset) q) (F : Shifted s s₁ (st .x) (st .offset)) (M : Moved s₁ s₂ to (st .x) n)
-    (C : Closed s₂ (to + n) q total s₃ all) (U : Unheaded (st .base) at next) where
+module _ (s s₁ s₂ s₃ : List ℕ) (st : State) (total to q all next : ℕ) (W : Waiting s st total) (R : Rows s st total) (e : st .rest ≡ 0)
+    (G : GoesAt s (st .low) (st .x) (st .offset) to) (H : GoesOn s (st .q) total (st .offset) q) (F : Shifted s s₁ (st .x) (st .offset)) (M : Moved s₁ s₂ to (st .x) (st .n))
+    (C : Closed s₂ (to + st .n) q total s₃ all) (U : Unheaded (st .base) (st .at) next) where
   kept-below : (i : ℕ) → i < to → Same s i s₂ i
   kept-below i lt = same-trans s s₁ s₂ i i i (F .others i (omega (arith, G .upto))) (M .below i lt)
 
@@ -90,7 +90,7 @@ module _ (s s₁ s₂ s₃ : List ℕ) (st : State) (n pairings at total to q al
             high-ends = omega (arith, K .count, append-nodes (K .pre) (K .left <+> fs));
           }
 
-  whole : {k : ℕ} {z : Size} {low mid high : Entries} (b : Usage) (o : ℕ) → Joins k z low mid high (st .offset) s st total → At b s (st .x) o → nodes b ≡ n → Whole z low high b
+  whole : {k : ℕ} {z : Size} {low mid high : Entries} (b : Usage) (o : ℕ) → Joins k z low mid high (st .offset) s st total → At b s (st .x) o → nodes b ≡ st .n → Whole z low high b
   whole {k} {z} {low} {mid} {high} b o J stands count =
       let d : ℕ = st .offset in
       let nothing : mid ≡ none = no-nodes mid (omega (arith, J .mid-count)) in
@@ -111,17 +111,17 @@ module _ (s s₁ s₂ s₃ : List ℕ) (st : State) (n pairings at total to q al
       let counted : nodes (map z (low′ <+> entry d b high′)) ≡ all = omega (arith, append-nodes low′ (entry d b high′), below .count, above .count, C .count) in
       record { stands = rw made result; count = rw made counted; finger = last-finger z low′ (entry d b high′) (offsetIn s₂ 0) (st .low) result counted (last-kept (below .is) (J .low-last)) }
 
-  pub ends : (rep : List ℕ) {st′ : State} → st′ ≡ finishedAt all pairings next (st .low) → Moves s rep st n pairings at total s₃ rep st′
+  pub ends : (rep : List ℕ) {st′ : State} → st′ ≡ finishedAt all (st .pairings) next (st .low) → Moves s rep st total s₃ rep st′
   ends rep f = rw f (record {
-    numbers = numbers-finished all pairings next total (omega (arith, C .count, G .some)) (omega (arith, C .count, G .upto, W .within, W .high, H .from, H .upto));
+    numbers = numbers-finished all (st .pairings) next total (omega (arith, C .count, G .some)) (omega (arith, C .count, G .upto, W .within, W .high, H .from, H .upto));
     fall = omega arith;
-    next = by-joins _ _ _ _ _ _ _ _ _ _ (R .rule) (λ setting z low mid high b w p rep₀ base S J short.
+    next = by-joins _ _ _ _ _ _ _ (R .rule) (λ setting z low mid high b w p rep₀ base S J short.
         let nothing : mid ≡ none = no-nodes mid (omega (arith, J .mid-count)) in
         let d : ℕ = st .offset in
         let goal = finish-none setting z low high d b w p nothing in
         let fits = rw goal at short in
         let B = whole b (S .offset) J (S .stands) (S .count) in
-        rw goal (next-at setting rep₀ base s₃ rep total (after [] 1 (done (map z (insert d b (low <+> high))) (ofRule w) p)) all pairings next (st .low) (record {
+        rw goal (next-at setting rep₀ base s₃ rep total (after [] 1 (done (map z (insert d b (low <+> high))) (ofRule w) p)) all (st .pairings) next (st .low) (record {
           answered = refl;
           offset = offsetIn s₂ 0;
           stands = B .stands;

@@ -24,17 +24,17 @@ use Rattle.maps.proofs.Stepping.{by-joins, taken, finish-joint, joins-n
 itself : (s : List ℕ) (q : ℕ) → Same s q s q
 itself s q = record { command = refl; nodes = refl; size = refl; argument = refl; offset = refl }
 
-pub entry-took : {s rep : List ℕ} {st : State} {l n pairings at : ℕ} {rep′ : List ℕ} {o next : ℕ} → o ≡ offsetIn s l → Emitted rep at (0x31 ∷ bytes 4 o) rep′ next
-    → EntryTook s rep st l n pairings at rep′ (entryState st l n o pairings at next)
+pub entry-took : {s rep : List ℕ} {st : State} {l : ℕ} {rep′ : List ℕ} {o next : ℕ} → o ≡ offsetIn s l → Emitted rep (st .at) (0x31 ∷ bytes 4 o) rep′ next
+    → EntryTook s rep st l rep′ (entryState st l o next)
 entry-took {next} e E = rw e (record { next = next; state = refl; report = rw e at E })
 
-pub b-took : {s rep : List ℕ} {st : State} {todo l n pairings at : ℕ} {s′ rep′ : List ℕ} {o next : ℕ} → o ≡ offsetIn s l → Turned s s′ l (st .x - l) n → Emitted rep at (0x31 ∷ bytes 4 o) rep′ next
-    → BTook s rep st todo l n pairings at s′ rep′ (bState st todo l n o pairings at next)
+pub b-took : {s rep : List ℕ} {st : State} {todo l : ℕ} {s′ rep′ : List ℕ} {o next : ℕ} → o ≡ offsetIn s l → Turned s s′ l (st .x - l) (st .n) → Emitted rep (st .at) (0x31 ∷ bytes 4 o) rep′ next
+    → BTook s rep st todo l s′ rep′ (bState st todo l o next)
 b-took {next} e T E = rw e (record { turned = T; next = next; state = refl; report = rw e at E })
 
-module _ (s rep : List ℕ) (st : State) (n pairings at total l : ℕ) (W : Waiting s st n total) (R : Rows s st total) (L : LastAt s (st .x - st .rest) (st .x) l) where
+module _ (s rep : List ℕ) (st : State) (total l : ℕ) (W : Waiting s st total) (R : Rows s st total) (L : LastAt s (st .x - st .rest) (st .x) l) where
   pub entry-receives : {rep′ : List ℕ} {st′ : State} → offsetIn s l < st .offset → Joint s l (st .x) (offsetIn s l) (st .offset) (intoEntry (offsetIn s l) (st .offset))
-      → EntryTook s rep st l n pairings at rep′ st′ → Moves s rep st n pairings at total s rep′ st′
+      → EntryTook s rep st l rep′ st′ → Moves s rep st total s rep′ st′
   unfolding Outside intoEntry act
   entry-receives {rep′} lower Jt T = rw (T .state) (record {
     numbers = record {
@@ -46,13 +46,14 @@ module _ (s rep : List ℕ) (st : State) (n pairings at total l : ℕ) (W : Wait
       more = omega (arith, W .some);
     };
     fall = omega (arith, R .above, L .low, L .high);
-    next = by-joins _ _ _ _ _ _ _ _ _ _ (R .rule) (λ setting z low mid high b w p rep₀ base S J short.
+    next = by-joins _ _ _ _ _ _ _ (R .rule) (λ setting z low mid high b w p rep₀ base S J short.
         let o : ℕ = offsetIn s l in
         let d : ℕ = st .offset in
         let A = taken J L in
         record {
           ends = λ e. absurd (omega arith);
           finger = λ e. absurd (omega arith);
+          holds = λ e. absurd (omega arith);
           goes = λ _. record {
             y = joins z low (A .init) high o;
             o = o;
@@ -82,8 +83,8 @@ module _ (s rep : List ℕ) (st : State) (n pairings at total l : ℕ) (W : Wait
         });
   })
 
-  pub b-receives : {todo : ℕ} {s′ rep′ : List ℕ} {st′ : State} → todo ≤ 2 → 1 ≤ todo → Joint s l (st .x) (offsetIn s l) (st .offset) (intoB todo (offsetIn s l) (st .offset))
-      → BTook s rep st todo l n pairings at s′ rep′ st′ → Moves s rep st n pairings at total s′ rep′ st′
+  pub b-receives : {todo : ℕ} {s′ rep′ : List ℕ} {st′ : State} → todo ≤ 3 → 2 ≤ todo → Joint s l (st .x) (offsetIn s l) (st .offset) (intoB todo (offsetIn s l) (st .offset))
+      → BTook s rep st todo l s′ rep′ st′ → Moves s rep st total s′ rep′ st′
   unfolding Outside intoB
   b-receives {todo} {s′} {rep′} few some Jt T = rw (T .state) (record {
     numbers = record {
@@ -95,7 +96,7 @@ module _ (s rep : List ℕ) (st : State) (n pairings at total l : ℕ) (W : Wait
       more = omega (arith, L .high);
     };
     fall = omega (arith, R .above, L .low, L .high);
-    next = by-joins _ _ _ _ _ _ _ _ _ _ (R .rule) (λ setting z low mid high b w p rep₀ base S J short.
+    next = by-joins _ _ _ _ _ _ _ (R .rule) (λ setting z low mid high b w p rep₀ base S J short.
         let o : ℕ = offsetIn s l in
         let d : ℕ = st .offset in
         let A = taken J L in
@@ -104,6 +105,7 @@ module _ (s rep : List ℕ) (st : State) (n pairings at total l : ℕ) (W : Wait
         record {
           ends = λ e. absurd (omega arith);
           finger = λ e. absurd (omega arith);
+          holds = λ e. absurd (omega arith);
           goes = λ _. record {
             y = joins z low (A .init) high d;
             o = o;
@@ -117,7 +119,7 @@ module _ (s rep : List ℕ) (st : State) (n pairings at total l : ℕ) (W : Wait
             t-count = S .count;
             t-fits = S .fits;
             u-offset = o;
-            u-stands = at-move (A .u) s s′ l (l + n) o (λ i lt. T .turned .first i (omega (arith, A .count))) (A .stands);
+            u-stands = at-move (A .u) s s′ l (l + st .n) o (λ i lt. T .turned .first i (omega (arith, A .count))) (A .stands);
             u-count = omega (arith, A .count);
             u-fits = A .fits;
             pairs = S .pairs;
@@ -126,7 +128,7 @@ module _ (s rep : List ℕ) (st : State) (n pairings at total l : ℕ) (W : Wait
             based = S .based;
             mark = S .report .place;
             report = emitted-after (S .report) (T .report);
-            finger = no-finger s′ l n;
+            finger = no-finger s′ l (st .n);
             outside = joins-next J A s′ _ (T .turned .below) (λ i le. T .turned .above i (omega (arith, W .within))) d refl refl refl refl refl refl (J .low-by) (J .high-from) (J .offset-fits);
           };
         });

@@ -23,10 +23,10 @@ use Rattle.maps.proofs.Entries.{last-within, under-of, under-front, asc
 use Rattle.maps.proofs.Downward.{downFrom, finish-last}
 
 -- in rule 6 what is outside of b is a map
-module _ (s rep : List ℕ) (st : State) (n pairings at total : ℕ) (s′ rep′ : List ℕ) (st′ : State) where
+module _ (s rep : List ℕ) (st : State) (total : ℕ) (s′ rep′ : List ℕ) (st′ : State) where
   abbrev StepsAt : Setting → Size → Entries → Entries → Entries → Usage → List ℕ → ℕ → List ℕ → ℕ → ℕ → Type 0
   StepsAt setting z low mid high b w p rep₀ base d =
-      Standing (length (setting .table)) (joins z low mid high d) b w p rep₀ base s rep st n pairings at total
+      Standing (length (setting .table)) (joins z low mid high d) b w p rep₀ base s rep st total
       → Joins (length (setting .table)) z low mid high d s st total
       → Short base (finish setting (joins z low mid high d) b w p)
       → Next setting (finish setting (joins z low mid high d) b w p) rep₀ base s′ rep′ st′ total
@@ -35,7 +35,7 @@ module _ (s rep : List ℕ) (st : State) (n pairings at total : ℕ) (s′ rep�
       → ((setting : Setting) (z : Size) (low mid high : Entries) (b : Usage) (w : List ℕ) (p : ℕ) (rep₀ : List ℕ) (base : ℕ)
       → StepsAt setting z low mid high b w p rep₀ base (st .offset))
       → (setting : Setting) (y : Beyond) (u : Usage) (w : List ℕ) (p : ℕ) (rep₀ : List ℕ) (base : ℕ)
-      → Standing (length (setting .table)) y u w p rep₀ base s rep st n pairings at total → Short base (finish setting y u w p)
+      → Standing (length (setting .table)) y u w p rep₀ base s rep st total → Short base (finish setting y u w p)
       → Next setting (finish setting y u w p) rep₀ base s′ rep′ st′ total
   unfolding Outside
   by-joins e f setting (entries es) u w p rep₀ base S h = absurd (omega (arith, S .outside .rule))
@@ -56,9 +56,9 @@ joins-rows {low} {mid} {high} {st} J = record {
   upper = record { es = high; held = J .high-held; ends = J .high-ends };
 }
 
-pub rows-of : (s : List ℕ) (st : State) (n total : ℕ) → Waiting s st n total → st .rule ≡ 6 → Rows s st total
+pub rows-of : (s : List ℕ) (st : State) (total : ℕ) → Waiting s st total → st .rule ≡ 6 → Rows s st total
 unfolding Outside
-rows-of s st n total W e = go (W .y) (W .outside)
+rows-of s st total W e = go (W .y) (W .outside)
   where
     go : (y : Beyond) → Outside (W .k) y s st total → Rows s st total
     go (entries es) h = absurd (omega (arith, h .rule))

@@ -15,20 +15,20 @@ use Rattle.maps.proofs.Deciding.{straddles-below, straddles-above, entr
 use Rattle.maps.proofs.Receiving.{entry-receives, b-receives}
 use Rattle.maps.proofs.Ending.{straddles}
 
-module _ (s rep : List ℕ) (st : State) (n pairings at total l o y z : ℕ)
-    (W : Waiting s st n total) (R : Rows s st total) (L : LastAt s (st .x - st .rest) (st .x) l) (eo : o ≡ offsetIn s l)
+module _ (s rep : List ℕ) (st : State) (total l o y z : ℕ)
+    (W : Waiting s st total) (R : Rows s st total) (L : LastAt s (st .x - st .rest) (st .x) l) (eo : o ≡ offsetIn s l)
     (M : Marks y (ends o (sizeIn s l))) (N : Marks z (ends (st .offset) (sizeIn s (st .x)))) where
-  pub lower-straddles : {s′ rep′ : List ℕ} {st′ : State} → o < st .offset → y < z → Straddled s rep st l pairings total s′ rep′ st′ → Moves s rep st n pairings at total s′ rep′ st′
-  lower-straddles lt less T = straddles s rep st n pairings at total l W R L (straddles-below (rw eo at M) N (omega arith) less) T
+  pub lower-straddles : {s′ rep′ : List ℕ} {st′ : State} → o < st .offset → y < z → Straddled s rep st l total s′ rep′ st′ → Moves s rep st total s′ rep′ st′
+  lower-straddles lt less T = straddles s rep st total l W R L (straddles-below (rw eo at M) N (omega arith) less) T
 
-  pub upper-straddles : {s′ rep′ : List ℕ} {st′ : State} → st .offset < o → z < y → Straddled s rep st l pairings total s′ rep′ st′ → Moves s rep st n pairings at total s′ rep′ st′
-  upper-straddles lt less T = straddles s rep st n pairings at total l W R L (straddles-above (rw eo at M) N (omega arith) less) T
+  pub upper-straddles : {s′ rep′ : List ℕ} {st′ : State} → st .offset < o → z < y → Straddled s rep st l total s′ rep′ st′ → Moves s rep st total s′ rep′ st′
+  upper-straddles lt less T = straddles s rep st total l W R L (straddles-above (rw eo at M) N (omega arith) less) T
 
-  pub lower-receives : {rep′ : List ℕ} {st′ : State} → o < st .offset → z ≤ y → EntryTook s rep st l n pairings at rep′ st′ → Moves s rep st n pairings at total s rep′ st′
-  lower-receives lt le T = entry-receives s rep st n pairings at total l W R L (omega arith) (entry-takes (rw eo at M) N (omega arith) le) T
+  pub lower-receives : {rep′ : List ℕ} {st′ : State} → o < st .offset → z ≤ y → EntryTook s rep st l rep′ st′ → Moves s rep st total s rep′ st′
+  lower-receives lt le T = entry-receives s rep st total l W R L (omega arith) (entry-takes (rw eo at M) N (omega arith) le) T
 
-  pub upper-receives : {s′ rep′ : List ℕ} {st′ : State} → st .offset < o → y ≤ z → BTook s rep st 1 l n pairings at s′ rep′ st′ → Moves s rep st n pairings at total s′ rep′ st′
-  upper-receives lt le T = b-receives s rep st n pairings at total l W R L (omega arith) (omega arith) (b-takes (rw eo at M) N (omega arith) le) T
+  pub upper-receives : {s′ rep′ : List ℕ} {st′ : State} → st .offset < o → y ≤ z → BTook s rep st 2 l s′ rep′ st′ → Moves s rep st total s′ rep′ st′
+  upper-receives lt le T = b-receives s rep st total l W R L (omega arith) (omega arith) (b-takes (rw eo at M) N (omega arith) le) T
 
-  pub equal-merges : {s′ rep′ : List ℕ} {st′ : State} → st .offset ≤ o → o ≤ st .offset → BTook s rep st 2 l n pairings at s′ rep′ st′ → Moves s rep st n pairings at total s′ rep′ st′
-  equal-merges le ge T = b-receives s rep st n pairings at total l W R L (omega arith) (omega arith) (b-merges s l (st .x) (offsetIn s l) (st .offset) (omega arith) (omega arith)) T
+  pub equal-merges : {s′ rep′ : List ℕ} {st′ : State} → st .offset ≤ o → o ≤ st .offset → BTook s rep st 3 l s′ rep′ st′ → Moves s rep st total s′ rep′ st′
+  equal-merges le ge T = b-receives s rep st total l W R L (omega arith) (omega arith) (b-merges s l (st .x) (offsetIn s l) (st .offset) (omega arith) (omega arith)) T

@@ -98,61 +98,61 @@ pub record Joint (s : List ℕ) (l x o d : ℕ) (f : Setting → Usage → Usage
 
 -- States with the next pair: the entry, of m nodes, and then b; and b, and then the entry
 
-abbrev pub entryState : State → ℕ → ℕ → ℕ → ℕ → ℕ → ℕ → State
-entryState st l n o pairings mark at = record {
+abbrev pub entryState : State → ℕ → ℕ → ℕ → State
+entryState st l o at = record {
   refusal = 0;
-  todo = 1;
+  todo = 2;
   rule = 6;
   x = l;
   n = st .x - l;
   d = st .offset - o;
-  m = n;
+  m = st .n;
   offset = o;
   rest = st .rest - (st .x - l);
   q = st .q;
   low = st .low;
-  pairings = pairings;
+  pairings = st .pairings;
   base = st .base;
-  mark = mark;
+  mark = st .at;
   at = at;
   finger = 0;
 }
 
-abbrev pub bState : State → ℕ → ℕ → ℕ → ℕ → ℕ → ℕ → ℕ → State
-bState st todo l n o pairings mark at = record {
+abbrev pub bState : State → ℕ → ℕ → ℕ → ℕ → State
+bState st todo l o at = record {
   refusal = 0;
   todo = todo;
   rule = 6;
   x = l;
-  n = n;
+  n = st .n;
   d = o - st .offset;
   m = st .x - l;
   offset = st .offset;
   rest = st .rest - (st .x - l);
   q = st .q;
   low = st .low;
-  pairings = pairings;
+  pairings = st .pairings;
   base = st .base;
-  mark = mark;
+  mark = st .at;
   at = at;
   finger = 0;
 }
 
-pub record EntryTook (s rep : List ℕ) (st : State) (l n pairings at : ℕ) (rep′ : List ℕ) (r : State) : Type 0 where
+pub record EntryTook (s rep : List ℕ) (st : State) (l : ℕ) (rep′ : List ℕ) (r : State) : Type 0 where
   pub next : ℕ
-  pub state : r ≡ entryState st l n (offsetIn s l) pairings at next
-  pub report : Emitted rep at (0x31 ∷ bytes 4 (offsetIn s l)) rep′ next
+  pub state : r ≡ entryState st l (offsetIn s l) next
+  pub report : Emitted rep (st .at) (0x31 ∷ bytes 4 (offsetIn s l)) rep′ next
 
-pub record BTook (s rep : List ℕ) (st : State) (todo l n pairings at : ℕ) (s′ rep′ : List ℕ) (r : State) : Type 0 where
-  pub turned : Turned s s′ l (st .x - l) n
+pub record BTook (s rep : List ℕ) (st : State) (todo l : ℕ) (s′ rep′ : List ℕ) (r : State) : Type 0 where
+  pub turned : Turned s s′ l (st .x - l) (st .n)
   pub next : ℕ
-  pub state : r ≡ bState st todo l n (offsetIn s l) pairings at next
-  pub report : Emitted rep at (0x31 ∷ bytes 4 (offsetIn s l)) rep′ next
+  pub state : r ≡ bState st todo l (offsetIn s l) next
+  pub report : Emitted rep (st .at) (0x31 ∷ bytes 4 (offsetIn s l)) rep′ next
 
 -- they are gone, and so is what was reported before
-pub record Straddled (s rep : List ℕ) (st : State) (l pairings total : ℕ) (s′ rep′ : List ℕ) (r : State) : Type 0 where
+pub record Straddled (s rep : List ℕ) (st : State) (l total : ℕ) (s′ rep′ : List ℕ) (r : State) : Type 0 where
   pub all : ℕ
   pub next : ℕ
   pub closed : Closed s l (st .q) total s′ all
-  pub state : r ≡ finishedState all pairings next
+  pub state : r ≡ finishedState all (st .pairings) next
   pub report : Emitted rep (st .base) (straddleConflict (offsetIn s l) (st .offset)) rep′ next

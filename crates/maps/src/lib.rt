@@ -161,53 +161,45 @@ fn replaced_above(s: &[u8], q: usize, total: usize, o: u32) -> usize
     q
 }
 
-// No entry is left to be joined: b, at x with n nodes, replaces what stands at its offset. The finger
-// is the last entry below.
-fn end_join(s: &mut [u8], st: State, n: usize, pairings: u32, at: usize, total: usize) -> State
-    requires { ⌜ Waiting (now s) st n total ⌝ }
+// No entry is left to be joined: b, at x, replaces what stands at its offset. The finger is the last entry below.
+fn end_join(s: &mut [u8], st: State, total: usize) -> State
+    requires { ⌜ Waiting (now s) st total ⌝ }
     requires { ⌜ Rows (now s) st total ⌝ }
     requires { ⌜ st .rest ≡ 0 ⌝ }
-    ensures { λ r. ⌜ ((rep : List ℕ) → Moves (now (s .entry)) rep st n pairings at total (now (s .exit)) rep r) ⌝ }
+    ensures { λ r. ⌜ ((rep : List ℕ) → Moves (now (s .entry)) rep st total (now (s .exit)) rep r) ⌝ }
 {
     let x = st.x;
+    let n = st.n;
     let o = st.offset;
     let to = replaced_below(s, st.low, x, o);
     let q = replaced_above(s, st.q, total, o);
     put_offset(s, x, o);
     move_down(s, to, x, n);
     let all = close(s, to + n, q, total);
-    State::finished_at(all, pairings, without_heading(st.base, at), st.low)
+    State::finished_at(all, st.pairings, without_heading(st.base, st.at), st.low)
 }
 
 // The entry at l and b straddle: they are gone, and so is what was reported before.
-fn straddle(s: &mut [u8], st: State, l: usize, pairings: u32, rep: &mut [u8], total: usize) -> State
+fn straddle(s: &mut [u8], st: State, l: usize, rep: &mut [u8], total: usize) -> State
     requires { ⌜ (1 ≤ l) × (l < st .q) × (st .q ≤ total) × (total * 32 ≤ length (now s)) × (total ≤ 65536) ⌝ }
-    ensures { λ r. ⌜ Straddled (now (s .entry)) (now (rep .entry)) st l pairings total (now (s .exit)) (now (rep .exit)) r ⌝ }
+    ensures { λ r. ⌜ Straddled (now (s .entry)) (now (rep .entry)) st l total (now (s .exit)) (now (rep .exit)) r ⌝ }
 {
     let o = offset(s, l);
     let all = close(s, l, st.q, total);
     let end = report::straddle(rep, st.base, o, st.offset);
-    State::finished(all, pairings, end)
+    State::finished(all, st.pairings, end)
 }
 
-// b so far stands at x with n nodes; the last of the entries before it is joined with it. The one that starts lower receives the
-// other, and must end no earlier than it.
-pub fn next_join(
-    s: &mut [u8],
-    st: State,
-    n: usize,
-    pairings: u32,
-    rep: &mut [u8],
-    at: usize,
-    total: usize,
-) -> State
-    requires { ⌜ Waiting (now s) st n total ⌝ }
+// b so far stands at x; the last of the entries before it is joined with it. The one that starts lower receives the other, and must
+// end no earlier than it.
+pub fn next_join(s: &mut [u8], st: State, rep: &mut [u8], total: usize) -> State
+    requires { ⌜ Waiting (now s) st total ⌝ }
     requires { ⌜ Rows (now s) st total ⌝ }
-    ensures { λ r. ⌜ Moves (now (s .entry)) (now (rep .entry)) st n pairings at total (now (s .exit)) (now (rep .exit)) r ⌝ }
+    ensures { λ r. ⌜ Moves (now (s .entry)) (now (rep .entry)) st total (now (s .exit)) (now (rep .exit)) r ⌝ }
 {
     let rest = st.rest;
     if rest == 0 {
-        return end_join(s, st, n, pairings, at, total);
+        return end_join(s, st, total);
     }
     let x = st.x;
     let d = st.offset;
@@ -217,73 +209,57 @@ pub fn next_join(
     let b_end = end_at(s, x, d);
     if o < d {
         if entry_end < b_end {
-            return straddle(s, st, l, pairings, rep, total);
+            return straddle(s, st, l, rep, total);
         }
-        return entry_receives(s, st, l, n, pairings, rep, at);
+        return entry_receives(s, st, l, rep);
     }
     if d < o {
         if b_end < entry_end {
-            return straddle(s, st, l, pairings, rep, total);
+            return straddle(s, st, l, rep, total);
         }
-        return b_receives(s, st, 1, l, n, pairings, rep, at);
+        return b_receives(s, st, 2, l, rep);
     }
-    b_receives(s, st, 2, l, n, pairings, rep, at)
+    b_receives(s, st, 3, l, rep)
 }
 
 // The entry at l receives b, and the result stands at the entry's offset.
-fn entry_receives(
-    s: &[u8],
-    st: State,
-    l: usize,
-    n: usize,
-    pairings: u32,
-    rep: &mut [u8],
-    at: usize,
-) -> State
+fn entry_receives(s: &[u8], st: State, l: usize, rep: &mut [u8]) -> State
     requires { ⌜ (l * 32 + 32 ≤ length (now s)) × (l < st .x) × (st .x - l ≤ st .rest) × (offsetIn (now s) l ≤ st .offset) ⌝ }
-    ensures { λ r. ⌜ EntryTook (now (s .entry)) (now (rep .entry)) st l n pairings at (now (rep .exit)) r ⌝ }
+    ensures { λ r. ⌜ EntryTook (now (s .entry)) (now (rep .entry)) st l (now (rep .exit)) r ⌝ }
 {
     let m = st.x - l;
     let o = offset(s, l);
-    let next = report::of_entry(rep, at, o);
+    let next = report::of_entry(rep, st.at, o);
     State {
         refusal: 0,
-        todo: 1,
+        todo: 2,
         rule: 6,
         x: l,
         n: m,
         d: st.offset - o,
-        m: n,
+        m: st.n,
         offset: o,
         rest: st.rest - m,
         q: st.q,
         low: st.low,
-        pairings: pairings,
+        pairings: st.pairings,
         base: st.base,
-        mark: at,
+        mark: st.at,
         at: next,
         finger: 0,
     }
 }
 
 // b receives the entry at l, and changes places with it; at equal starts they are merged.
-fn b_receives(
-    s: &mut [u8],
-    st: State,
-    todo: u32,
-    l: usize,
-    n: usize,
-    pairings: u32,
-    rep: &mut [u8],
-    at: usize,
-) -> State
-    requires { ⌜ ((st .x + n) * 32 ≤ length (now s)) × (st .x + n ≤ 65536) × (l < st .x) × (st .x - l ≤ st .rest) × (st .offset ≤ offsetIn (now s) l) ⌝ }
-    ensures { λ r. ⌜ BTook (now (s .entry)) (now (rep .entry)) st todo l n pairings at (now (s .exit)) (now (rep .exit)) r ⌝ }
+fn b_receives(s: &mut [u8], st: State, todo: u32, l: usize, rep: &mut [u8]) -> State
+    requires { ⌜ ((st .x + st .n) * 32 ≤ length (now s)) × (st .x + st .n ≤ 65536) × (l < st .x) × (st .x - l ≤ st .rest) × (st .offset ≤ offsetIn (now s) l) ⌝ }
+    ensures { λ r. ⌜ BTook (now (s .entry)) (now (rep .entry)) st todo l (now (s .exit)) (now (rep .exit)) r ⌝ }
 {
+    let n = st.n;
     let m = st.x - l;
     let o = offset(s, l);
     turn(s, l, m, n);
-    let next = report::of_entry(rep, at, o);
+    let next = report::of_entry(rep, st.at, o);
     State {
         refusal: 0,
         todo: todo,
@@ -296,15 +272,15 @@ fn b_receives(
         rest: st.rest - m,
         q: st.q,
         low: st.low,
-        pairings: pairings,
+        pairings: st.pairings,
         base: st.base,
-        mark: at,
+        mark: st.at,
         at: next,
         finger: 0,
     }
 }
 
-// b is placed at d in a, a map.
+// b is placed at d in a, a map: it comes to stand behind the entries that overlap, and is what there is so far.
 pub fn begin_join(
     s: &mut [u8],
     na: usize,
@@ -330,9 +306,10 @@ pub fn begin_join(
     }
     let upto = found.upto;
     turn(s, upto, na - upto, nb);
-    let st = State {
+    let next = report::byte(rep, at, 0x30);
+    State {
         refusal: 0,
-        todo: 0,
+        todo: 1,
         rule: 6,
         x: upto,
         n: nb,
@@ -344,10 +321,8 @@ pub fn begin_join(
         low: found.low,
         pairings: 1,
         base: at,
-        mark: at,
-        at: at,
+        mark: next,
+        at: next,
         finger: 0,
-    };
-    let next = report::byte(rep, at, 0x30);
-    next_join(s, st, nb, 1, rep, next, na + nb)
+    }
 }

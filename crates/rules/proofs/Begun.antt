@@ -1,7 +1,7 @@
 -- Where a placing has begun: refused by its sizes, with the number; or by the rule of b's kind and a's, which is what the placing is.
 -- Assumes nothing.
 use Prim.Native.Nat.{ℕ, zero, suc, _+_, _^_, _<_}
-use mathlib.Core.Path.{_≡_, refl, _∙_}
+use mathlib.Core.Path.{_≡_, refl, sym, _∙_}
 use mathlib.Core.List.{List, []}
 use native.Mathlib.Omega.{arith}
 use lib.ListN.{length}
@@ -17,13 +17,16 @@ use Rattle.records.specs.Records.{commandIn, sizeIn}
 use Rattle.report.proofs.Emitting.{emitted-nothing}
 use Rattle.states.specs.Calls.{Two, Ready, Near}
 use Rattle.states.specs.States.{Next, Begins, Began}
-use Rattle.states.specs.Starts.{Beside, Plain, Starts}
+use Rattle.states.specs.Fingers.{Finger}
+use Rattle.states.specs.Starts.{Beside, Plain}
 use Rattle.states.specs.Ends.{finishedState, refusedState}
 use Rattle.states.specs.declared.State.{State}
 use Rattle.states.proofs.Ending.{numbers-finished, numbers-refused, next-finished, next-refused}
 use Rattle.states.proofs.Roots.{left-size, right-size, right-command}
 use Rattle.states.proofs.Room.{place-short}
 use Rattle.states.proofs.Starting.{starts-begins}
+use Rattle.entries.specs.Begun.{Begun as EntriesBegun}
+use Rattle.entries.proofs.Starts.{starts}
 use Rattle.arrays.specs.Arrays.{Resized}
 use Rattle.leaf.specs.Leaves.{Typed}
 
@@ -66,9 +69,10 @@ begins-unused table places s rep na d nb at c st R small here none e = rw e (rec
     go setting (array z n v) is a two = absurd (omega arith)
 
 -- rule 2
-pub begins-entries : (table places s rep s′ rep′ : List ℕ) (na d nb at : ℕ) (st : State) → d ≡ 0 → Starts s na 0 nb rep at s′ rep′ st
-    → Begins table places s na d nb rep at s′ rep′ st
-begins-entries table places s rep s′ rep′ na d nb at st first S = rw first (starts-begins table places s na 0 nb rep at s′ rep′ st S)
+pub begins-entries : (table places s rep rep′ : List ℕ) (na d nb at from c : ℕ) (st : State) → Ready table places s na nb → c ≡ commandIn s na → c ≡ 3 → d ≡ 0 → Finger s 0 na from
+    → EntriesBegun na nb rep at from rep′ st → Begins table places s na d nb rep at s rep′ st
+begins-entries table places s rep rep′ na d nb at from c st R here is first F G =
+    rw first (starts-begins table places s na 0 nb rep at s rep′ st (starts s rep rep′ na nb at from st (ready-beside table places s na nb R) (sym here ∙ is) F G))
 
 -- rule 3
 pub begins-resized : (table places s rep s′ : List ℕ) (na d nb at : ℕ) (st : State) → Resized s na nb at s′ st → Plain (commandIn s na) d

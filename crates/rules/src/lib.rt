@@ -1,4 +1,4 @@
-// The rules of placing: sizes first, then by b's kind and by a's; and what follows when a pair has been placed or merged.
+// The rules of placing: sizes first, then by b's kind and by a's; what a pair has become, and what follows.
 ghost use mathlib.Core.Path.{_≡_};
 ghost use Prim.Native.Nat.{_+_};
 ghost use Rattle.definitions.specs.Place.{sizeRefusal};
@@ -6,9 +6,9 @@ ghost use Rattle.qptr.specs.Values.{sizeOf};
 ghost use Rattle.records.specs.Records.{commandIn};
 ghost use Rattle.states.specs.Calls.{Ready, Near};
 ghost use Rattle.states.specs.Fingers.{Finger};
-ghost use Rattle.states.specs.States.{Begins, Began, Answered, Settled};
+ghost use Rattle.states.specs.States.{Waiting, Moves, Begins, Began};
 ghost use Rattle.states.specs.Starts.{Plain};
-ghost use Rattle.rules.specs.Settling.{Unmarked};
+ghost use Rattle.rules.specs.Settling.{Unmarked, Settled};
 use arrays::begin_array;
 use arrays::begin_unused;
 use arrays::next_element;
@@ -100,7 +100,7 @@ fn begin_with(
     }
     if placed == 3 {
         if d == 0 {
-            return begin_entries(s, na, nb, rep, at, from);
+            return begin_entries(na, nb, rep, at, from);
         }
         return begin_into(table, places, s, na, d, nb, rep, at, from);
     }
@@ -141,21 +141,44 @@ fn without_mark(here: usize, mark: usize, at: usize) -> usize
     at
 }
 
-// The pair has become r.nodes nodes at x: the next pair, or the end.
-pub fn settle(s: &mut [u8], st: State, r: Outcome, rep: &mut [u8], total: usize) -> State
-    requires { ⌜ Answered (now s) st r total ⌝ }
-    ensures { λ t. ⌜ Settled (now (s .entry)) (now (rep .entry)) st r total (now (s .exit)) (now (rep .exit)) t ⌝ }
+// The pair has become what r says: refused, or what stands in its place.
+pub fn settle(st: State, r: Outcome) -> State
+    ensures { λ t. ⌜ Settled st r t ⌝ }
 {
     if r.refusal != 0 {
         return State::refused(r.refusal);
     }
-    let pairings = std::num::wrapping_add_u32(st.pairings, r.pairings);
     let at = without_mark(st.at, st.mark, r.at);
+    State {
+        refusal: 0,
+        todo: 1,
+        rule: st.rule,
+        x: st.x,
+        n: r.nodes,
+        d: 0,
+        m: 0,
+        offset: st.offset,
+        rest: st.rest,
+        q: st.q,
+        low: st.low,
+        pairings: std::num::wrapping_add_u32(st.pairings, r.pairings),
+        base: st.base,
+        mark: at,
+        at: at,
+        finger: r.finger,
+    }
+}
+
+// From what stands at x: the next pair, or the end.
+pub fn step(s: &mut [u8], st: State, rep: &mut [u8], total: usize) -> State
+    requires { ⌜ Waiting (now s) st total ⌝ }
+    ensures { λ t. ⌜ Moves (now (s .entry)) (now (rep .entry)) st total (now (s .exit)) (now (rep .exit)) t ⌝ }
+{
     if st.rule == 2 {
-        return next_entry(s, st, r.nodes, pairings, rep, at, r.finger, total);
+        return next_entry(s, st, rep, total);
     }
     if st.rule == 6 {
-        return next_join(s, st, r.nodes, pairings, rep, at, total);
+        return next_join(s, st, rep, total);
     }
-    next_element(s, st, r.nodes, pairings, r.at)
+    next_element(s, st)
 }

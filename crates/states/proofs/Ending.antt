@@ -27,14 +27,14 @@ numbers-refused k total some =
 module _ (setting : Setting) (rep₀ : List ℕ) (base : ℕ) (s rep : List ℕ) (total : ℕ) where
   pub next-at : (goal : Result Usage) (n p at finger : ℕ) → Done goal s 0 n p rep₀ base rep at → Finger s 0 n finger
       → Next setting goal rep₀ base s rep (finishedAt n p at finger) total
-  next-at goal n p at finger D F = record { ends = λ _. D; goes = λ more. absurd (more refl); finger = λ _. F }
+  next-at goal n p at finger D F = record { ends = λ _. D; finger = λ _. F; holds = λ held. absurd (omega arith); goes = λ more. absurd (omega arith) }
 
   pub next-finished : (goal : Result Usage) (n p at : ℕ) → Done goal s 0 n p rep₀ base rep at
       → Next setting goal rep₀ base s rep (finishedState n p at) total
   next-finished goal n p at D = next-at goal n p at 0 D (no-finger s 0 n)
 
   pub next-refused : (k : ℕ) → 1 ≤ k → Next setting (refused k) rep₀ base s rep (refusedState k) total
-  next-refused k some = record { ends = λ _. (refl, some); goes = λ more. absurd (more refl); finger = λ _. no-finger s 0 1 }
+  next-refused k some = record { ends = λ _. (refl, some); finger = λ _. no-finger s 0 1; holds = λ held. absurd (omega arith); goes = λ more. absurd (omega arith) }
 
 pub emitted-unheaded : (w : List ℕ) {rep₀ : List ℕ} {base : ℕ} {rep : List ℕ} {at r : ℕ} → Emitted rep₀ base (0x30 ∷ w) rep at
     → base + length (ofRule w) < 2 ^ 63 → Unheaded base at r → Emitted rep₀ base (ofRule w) rep r

@@ -34,5 +34,5 @@ module _ (k : ℕ) (s : List ℕ) (st : State) (total : ℕ) where
   some-rule (joins z low mid high d) a b h = absurd (b (h .rule))
 
 -- the last rule to be asked for
-pub waiting-5 : (s : List ℕ) (st : State) (n total : ℕ) → Waiting s st n total → (st .rule ≡ 2 → ⊥) → (st .rule ≡ 6 → ⊥) → st .rule ≡ 5
-waiting-5 s st n total W a b = some-rule (W .k) s st total (W .y) a b (W .outside)
+pub waiting-5 : (s : List ℕ) (st : State) (total : ℕ) → Waiting s st total → (st .rule ≡ 2 → ⊥) → (st .rule ≡ 6 → ⊥) → st .rule ≡ 5
+waiting-5 s st total W a b = some-rule (W .k) s st total (W .y) a b (W .outside)

@@ -59,11 +59,12 @@ unfoldable pub resume : Setting → Beyond → ℕ → List ℕ → ℕ → Resu
 resume st y o w p (refused k) = refused k
 resume st y o w p (done u w′ p′) = finish st y u (w ++ marked y o w′) (p + p′)
 
--- what the pair gives: 2 merges, and else the second is placed in the first at d
+-- what the pair gives: 3 merges, and else the second is placed in the first at d
 unfoldable pub act : Setting → ℕ → ℕ → Usage → Usage → Result Usage
 act st zero d t u = place st t d u
 act st (suc zero) d t u = place st t d u
-act st (suc (suc n)) d t u = mergeMem st t u
+act st (suc (suc zero)) d t u = place st t d u
+act st (suc (suc (suc n))) d t u = mergeMem st t u
 
 -- the pairs of nodes that can still be met, where what stands so far has n nodes
 abbrev pub spare : Beyond → ℕ → ℕ
@@ -75,7 +76,7 @@ spare (joins z low mid high d) n = apartIn mid + n * nodesIn mid
 
 pub record Placing (k : ℕ) (es : Entries) (s : List ℕ) (st : State) (total : ℕ) : Type 0 where
   pub rule : st .rule ≡ 2
-  pub asks : st .todo ≤ 1
+  pub asks : st .todo ≤ 2
   pub start : st .x ≡ 0
   pub held : EntriesAt es s (st .q)
   pub count : nodesIn es ≡ st .rest
@@ -130,18 +131,28 @@ Outside k (entries es) s st total = Placing k es s st total
 Outside k (element z n) s st total = Around z n s st
 Outside k (joins z low mid high d) s st total = Joins k z low mid high d s st total
 
--- The pair's result stands at x, with n nodes: the placing gives `finish setting y u w p`.
-pub record Standing (k : ℕ) (y : Beyond) (u : Usage) (w : List ℕ) (p : ℕ) (rep₀ : List ℕ) (base : ℕ) (s rep : List ℕ) (st : State) (n pairings at total : ℕ) : Type 0 where
+-- What the pairs so far have come to stands at x: the placing gives `finish setting y u w p`.
+pub record Standing (k : ℕ) (y : Beyond) (u : Usage) (w : List ℕ) (p : ℕ) (rep₀ : List ℕ) (base : ℕ) (s rep : List ℕ) (st : State) (total : ℕ) : Type 0 where
   pub offset : ℕ
   pub stands : At u s (st .x) offset
-  pub count : nodes u ≡ n
+  pub count : nodes u ≡ st .n
   pub fits : Storable k u
-  pub pairs : pairings ≡ suc p % 2 ^ 32
+  pub pairs : st .pairings ≡ suc p % 2 ^ 32
   pub few : length w ≤ 14 * p
   pub room : p + apart u + spare y (nodes u) ≤ 2 ^ 32
   pub based : st .base ≡ base
-  pub report : Emitted rep₀ base (heading y ++ w) rep at
+  pub report : Emitted rep₀ base (heading y ++ w) rep (st .at)
+  pub finger : Finger s (st .x) (st .n) (st .finger)
   pub outside : Outside k y s st total
+
+-- With what stands the goal will be reached.
+pub record Held (setting : Setting) (goal : Result Usage) (rep₀ : List ℕ) (base : ℕ) (s rep : List ℕ) (st : State) (total : ℕ) : Type 0 where
+  pub y : Beyond
+  pub u : Usage
+  pub w : List ℕ
+  pub p : ℕ
+  pub comes : finish setting y u w p ≡ goal
+  pub standing : Standing (length (setting .table)) y u w p rep₀ base s rep st total
 
 -- A pair stands at x, and with it the goal will be reached.
 pub record Pending (setting : Setting) (goal : Result Usage) (rep₀ : List ℕ) (base : ℕ) (s rep : List ℕ) (st : State) (total : ℕ) : Type 0 where
@@ -174,44 +185,46 @@ abbrev pub Short : ℕ → Result Usage → Type 0
 Short base (refused k) = Unit {0}
 Short base (done u w p) = (base + length w < 2 ^ 63) × (base + 14 * p < 2 ^ 63)
 
--- finished, and what is left is the goal's; or a pair is pending
+-- finished, and what is left is the goal's; or something stands, from which it goes on; or a pair is pending
 pub record Next (setting : Setting) (goal : Result Usage) (rep₀ : List ℕ) (base : ℕ) (s rep : List ℕ) (st : State) (total : ℕ) : Type 0 where
   pub ends : st .todo ≡ 0 → Done goal s (st .refusal) (st .n) (st .pairings) rep₀ base rep (st .at)
-  pub goes : (st .todo ≡ 0 → ⊥) → Pending setting goal rep₀ base s rep st total
   pub finger : st .todo ≡ 0 → Finger s 0 (st .n) (st .finger)
+  pub holds : st .todo ≡ 1 → Held setting goal rep₀ base s rep st total
+  pub goes : 2 ≤ st .todo → Pending setting goal rep₀ base s rep st total
 
 -- a state's numbers
 pub record Numbers (st : State) (total : ℕ) : Type 0 where
-  pub todo : st .todo ≤ 2
+  pub todo : st .todo ≤ 3
   pub less : st .n + st .m + 1 ≤ st .q + (1 - st .todo)
   pub fits : st .x + st .n + st .m ≤ st .q
   pub high : st .q ≤ total
   pub some : 1 ≤ st .n
-  pub more : 1 ≤ st .m + (1 - st .todo)
+  pub more : 1 ≤ st .m + (2 - st .todo)
 
--- What the next step of a rule may assume: some result stands at x, and what is outside of it.
-pub record Waiting (s : List ℕ) (st : State) (n total : ℕ) : Type 0 where
+-- What the next step of a rule may assume: something stands at x, and what is outside of it.
+pub record Waiting (s : List ℕ) (st : State) (total : ℕ) : Type 0 where
   pub k : ℕ
   pub y : Beyond
   pub u : Usage
   pub offset : ℕ
   pub stands : At u s (st .x) offset
-  pub count : nodes u ≡ n
+  pub count : nodes u ≡ st .n
   pub fits : Storable k u
+  pub finger : Finger s (st .x) (st .n) (st .finger)
   pub outside : Outside k y s st total
-  pub some : 1 ≤ n
-  pub less : n + 1 ≤ st .q
-  pub within : st .x + n ≤ st .q
+  pub some : 1 ≤ st .n
+  pub less : st .n + 1 ≤ st .q
+  pub within : st .x + st .n ≤ st .q
   pub high : st .q ≤ total
   pub len : length s ≡ total * 32
   pub small : total ≤ nodeLimit
 
 -- What it leaves: fewer nodes to come, and the goal still ahead.
-pub record Moves (s rep : List ℕ) (st : State) (n pairings at total : ℕ) (s′ rep′ : List ℕ) (st′ : State) : Type 0 where
+pub record Moves (s rep : List ℕ) (st : State) (total : ℕ) (s′ rep′ : List ℕ) (st′ : State) : Type 0 where
   pub numbers : Numbers st′ total
   pub fall : st′ .rest + 1 ≤ st .rest + (1 - st′ .todo)
   pub next : (setting : Setting) (y : Beyond) (u : Usage) (w : List ℕ) (p : ℕ) (rep₀ : List ℕ) (base : ℕ)
-      → Standing (length (setting .table)) y u w p rep₀ base s rep st n pairings at total → Short base (finish setting y u w p)
+      → Standing (length (setting .table)) y u w p rep₀ base s rep st total → Short base (finish setting y u w p)
       → Next setting (finish setting y u w p) rep₀ base s′ rep′ st′ total
 
 -- What a rule leaves that begins a placing of b at d in a: `placeByKind`, with this placing's own pairing.
@@ -227,12 +240,6 @@ pub record Began (table places s : List ℕ) (na d nb : ℕ) (rep : List ℕ) (a
   pub next : (setting : Setting) → Known table places setting → (a b : Usage) → Two (length (setting .table)) s na nb a b
       → Next setting (place setting a d b) rep at s′ rep′ st (na + nb)
 
--- What a call gave back: if it was refused, nothing stands for anything.
-pub record Answered (s : List ℕ) (st : State) (r : Outcome) (total : ℕ) : Type 0 where
-  pub some : 1 ≤ total
-  pub waits : r .refusal ≡ 0 → Waiting s st (r .nodes) total
-  pub finger : r .refusal ≡ 0 → st .rule ≡ 2 → Finger s (st .x) (r .nodes) (r .finger)
-
 -- The pair gave u, with the report w′ and p′ pairings.
 pub record Given (k : ℕ) (y : Beyond) (o : ℕ) (w : List ℕ) (p : ℕ) (rep₀ : List ℕ) (base : ℕ) (u : Usage) (w′ : List ℕ) (p′ : ℕ) (s rep : List ℕ) (st : State) (r : Outcome) : Type 0 where
   pub answered : r .refusal ≡ 0
@@ -244,6 +251,7 @@ pub record Given (k : ℕ) (y : Beyond) (o : ℕ) (w : List ℕ) (p : ℕ) (rep�
   pub short : length w′ ≤ 14 * p′ - 5
   pub room : p + p′ + apart u + spare y (nodes u) ≤ 2 ^ 32
   pub report : Emitted rep₀ base (((heading y ++ w) ++ entryHead y o) ++ w′) rep (r .at)
+  pub finger : Finger s (st .x) (r .nodes) (r .finger)
 
 abbrev pub Gave : ℕ → Beyond → ℕ → List ℕ → ℕ → List ℕ → ℕ → Result Usage → List ℕ → List ℕ → State → Outcome → Type 0
 Gave k y o w p rep₀ base (refused n) s rep st r = (r .refusal ≡ n) × (1 ≤ n)
@@ -265,10 +273,3 @@ pub record Took (setting : Setting) (goal : Result Usage) (rep₀ : List ℕ) (b
   pub mark : st .mark ≡ (base + length (heading y ++ w)) % 2 ^ 64
   pub at-was : st .at ≡ (base + length ((heading y ++ w) ++ entryHead y o)) % 2 ^ 64
   pub outside : Outside (length (setting .table)) y s st total
-
--- What settling leaves.
-pub record Settled (s rep : List ℕ) (st : State) (r : Outcome) (total : ℕ) (s′ rep′ : List ℕ) (st′ : State) : Type 0 where
-  pub numbers : Numbers st′ total
-  pub fall : st′ .rest + 1 ≤ st .rest + (1 - st′ .todo)
-  pub next : (setting : Setting) (goal : Result Usage) (rep₀ : List ℕ) (base : ℕ) → Took setting goal rep₀ base s rep st r total → Short base goal
-      → Next setting goal rep₀ base s′ rep′ st′ total

@@ -11,8 +11,8 @@ pub struct Outcome {
     pub pairings: u32,
 }
 
-// What a placing has yet to do. A pair stands from record x on: n nodes, and then m nodes that go into them at d. The widest fields
-// stand first: without a gap a state is copied in whole pieces.
+// What a placing has yet to do. A pair stands from record x on: n nodes, and then m nodes that go into them at d. Or what the pairs so
+// far have come to stands there: n nodes. The widest fields stand first: without a gap a state is copied in whole pieces.
 pub struct State {
     pub x: usize,
     pub n: usize, // if finished, the nodes of the result, from record 0 on
@@ -23,9 +23,9 @@ pub struct State {
     pub base: usize, // where this placing's report began
     pub mark: usize, // rules 2 and 6: where the report stood before the pair's 31
     pub at: usize,
-    pub finger: usize, // where an entry of the first of the pair begins, counted from x, or 0; if finished, of the result
+    pub finger: usize, // where an entry of what stands at x begins, counted from x, or 0; if finished, of the result
     pub refusal: u32,
-    pub todo: u32, // 0 finished, 1 place the pair, 2 merge it
+    pub todo: u32, // 0 finished, 1 go on from what stands, 2 place the pair, 3 merge it
     pub rule: u32, // 2, 5 or 6
     pub d: u32,
     pub offset: u32, // rule 6: the offset of the pair's result

@@ -2,10 +2,11 @@
 -- Assumes nothing.
 use borrow.Author.Needs.{needs}
 use mathlib.Core.Path.{refl}
-use Prim.Native.Nat.{ℕ, _+_, _*_, _<_}
+use Prim.Native.Nat.{ℕ, _+_, _*_, _<_, _≤_}
 use native.Mathlib.Omega.{arith}
 use Rattle.states.proofs.Fingers.{no-finger}
-use Rattle.analyze.proofs.Loop.{Loop, loop-first, loop-last, loop-finger, pair-ready, pair-finger, merges-none, pair-near, pair-answered, loop-again, is-merging, is-placing}
+use Rattle.rules.proofs.Settling.{settled-falls}
+use Rattle.analyze.proofs.Loop.{Loop, loop-first, loop-last, loop-finger, loop-waits, loop-step, pair-ready, pair-finger, pair-near, loop-again, is-merging, is-placing}
 use Rattle.analyze.proofs.Merging.{ready-exchanged, merged-left, merged-right}
 use borrow.Fn.Kinds.{In}
 use borrow.Fn.PlainCycle.{Measures, is, falls, and}
@@ -16,6 +17,7 @@ use Rattle.analyze.proofs.merge_mem_at.Reads as merge-mem-at′
 use Rattle.analyze.proofs.merge_mem_at.Kinds as merge-mem-at-kinds
 use Rattle.analyze.proofs.+merge_mem+merge_mem_at.Lts-merge_mem_at as merge-mem-at-lts
 use Rattle.rules.proofs.begin.Reads as begin-reads
+use Rattle.rules.proofs.step.Reads as step-reads
 use Rattle.rules.proofs.settle.Reads as settle-reads
 use Rattle.analyze.proofs.top.Reads as top-reads
 use Rattle.qptr.proofs.first_receives.Reads as first-receives-reads
@@ -52,7 +54,7 @@ abbrev merge-mem-claims : ℕ → merge-mem-lts.Claims
 merge-mem-claims t = (top-reads.Asked, top-reads.Learnt, first-receives-reads.Asked, first-receives-reads.Learnt, merge-mem-at-below t, merge-mem-at′.Post, exchange-reads.Asked, exchange-reads.Learnt)
 
 abbrev merge-mem-at-claims : ℕ → merge-mem-at-lts.Claims
-merge-mem-at-claims t = (begin-reads.Asked, begin-reads.Learnt, merge-mem-below t, merge-mem.Post, settle-reads.Asked, settle-reads.Learnt, merge-mem-at-below t, merge-mem-at′.Post)
+merge-mem-at-claims t = (begin-reads.Asked, begin-reads.Learnt, step-reads.Asked, step-reads.Learnt, merge-mem-below t, merge-mem.Post, settle-reads.Asked, settle-reads.Learnt, merge-mem-at-below t, merge-mem-at′.Post)
 
 merge-mem-top-requires : (t : ℕ) → merge-mem-lts.Need-top-requires (merge-mem-claims t) (merge-mem-at t) merge-mem.Post
 merge-mem-top-requires t c κs = search needs
@@ -111,6 +113,25 @@ merge-mem-at-loop-holds t c =
     let start : _ = begun .before .before .before .before .before .before .before in
     loop-first (start .pre .1 .0) (start .pre .1 .1 .0) (begun .begin .ensures) (begun .begin .kept .1 .1 .0)
 
+merge-mem-at-step-requires : (t : ℕ) → merge-mem-at-lts.Need-step-requires (merge-mem-at-claims t) (merge-mem-at-at t) merge-mem-at′.Post merge-mem-at-Inv-loop merge-mem-at-μ-loop
+merge-mem-at-step-requires t c κs =
+    let chosen : _ = c .before .before in
+    let turn : _ = chosen .before .before .before .before in
+    loop-waits (turn .loop .inv) (chosen .if2 .taken)
+
+merge-mem-at-loop-less : (t : ℕ) → merge-mem-at-lts.Need-loop-less (merge-mem-at-claims t) (merge-mem-at-at t) merge-mem-at′.Post merge-mem-at-Inv-loop merge-mem-at-μ-loop
+merge-mem-at-loop-less t c =
+    let stepped : _ = c .before .before .before .before in
+    let chosen : _ = stepped .before .before .before in
+    omega (arith, stepped .step .ensures .fall, stepped .step .ensures .numbers .todo, chosen .if2 .taken)
+
+merge-mem-at-loop-again : (t : ℕ) → merge-mem-at-lts.Need-loop-again (merge-mem-at-claims t) (merge-mem-at-at t) merge-mem-at′.Post merge-mem-at-Inv-loop merge-mem-at-μ-loop
+merge-mem-at-loop-again t c =
+    let stepped : _ = c .before .before .before .before in
+    let chosen : _ = stepped .before .before .before in
+    let turn : _ = chosen .before .before .before .before in
+    loop-step (turn .loop .inv) (chosen .if2 .taken) (stepped .step .kept .0) (stepped .step .kept .1 .1 .0) (stepped .step .ensures)
+
 merge-mem-at-mul-x : (t : ℕ) → merge-mem-at-lts.Need-mul-x (merge-mem-at-claims t) (merge-mem-at-at t) merge-mem-at′.Post merge-mem-at-Inv-loop merge-mem-at-μ-loop
 merge-mem-at-mul-x t c = search needs
 
@@ -122,7 +143,7 @@ merge-mem-at-add-e-2 t c = search needs
 
 merge-mem-at-mul-e : (t : ℕ) → merge-mem-at-lts.Need-mul-e (merge-mem-at-claims t) (merge-mem-at-at t) merge-mem-at′.Post merge-mem-at-Inv-loop merge-mem-at-μ-loop
 merge-mem-at-mul-e t c =
-    let turn : _ = c .before .before .before .before .before in
+    let turn : _ = c .before .before .before .before .before .before .before in
     omega (arith, turn .loop .inv .numbers .fits, turn .loop .inv .numbers .high, turn .loop .inv .small)
 
 merge-mem-at-sub-merge-mem : (t : ℕ) → merge-mem-at-lts.Need-sub-merge-mem (merge-mem-at-claims t) (merge-mem-at-at t) merge-mem-at′.Post merge-mem-at-Inv-loop merge-mem-at-μ-loop
@@ -133,41 +154,40 @@ merge-mem-at-part-merge-mem-start t c = search needs
 
 merge-mem-at-part-merge-mem-end : (t : ℕ) → merge-mem-at-lts.Need-part-merge-mem-end (merge-mem-at-claims t) (merge-mem-at-at t) merge-mem-at′.Post merge-mem-at-Inv-loop merge-mem-at-μ-loop
 merge-mem-at-part-merge-mem-end t c =
-    let turn : _ = c .before .before .before .before .before .before .before in
+    let turn : _ = c .before .before .before .before .before .before .before .before .before in
     omega (arith, turn .loop .inv .numbers .fits, turn .loop .inv .numbers .high, turn .loop .inv .len)
 
 merge-mem-at-merge-mem-requires : (t : ℕ) → merge-mem-at-lts.Need-merge-mem-requires (merge-mem-at-claims t) (merge-mem-at-at t) merge-mem-at′.Post merge-mem-at-Inv-loop merge-mem-at-μ-loop
 merge-mem-at-merge-mem-requires t c κs =
-    let tested : _ = c .before .before .before .before .before .before .before in
+    let chosen : _ = c .before .before .before .before .before .before .before in
+    let tested : _ = chosen .before .before in
     let turn : _ = tested .before .before in
     let start : _ = turn .before .before .before .before .before .before .before .before .before .before .before .before in
-    (omega (arith, turn .loop .inv .numbers .less, turn .loop .inv .numbers .fits, turn .loop .inv .numbers .high, tested .if1 .taken, start .pre .0), (pair-ready (turn .loop .inv) (tested .if1 .taken) refl refl refl, (pair-near (turn .loop .inv) (tested .if1 .taken) refl refl refl, no-finger _ _ _)))
+    let L = turn .loop .inv in
+    let pair : 2 ≤ turn .loop .st .todo = omega (arith, tested .if1 .taken, chosen .if2 .left) in
+    (omega (arith, L .numbers .less, L .numbers .fits, L .numbers .high, tested .if1 .taken, start .pre .0), (pair-ready L pair refl refl refl, (pair-near L pair refl refl refl, pair-finger L pair refl refl refl)))
 
 merge-mem-at-settle-requires : (t : ℕ) → merge-mem-at-lts.Need-settle-requires (merge-mem-at-claims t) (merge-mem-at-at t) merge-mem-at′.Post merge-mem-at-Inv-loop merge-mem-at-μ-loop
-merge-mem-at-settle-requires t c κs =
-    let called : _ = c .before .before .before .before .before .before in
-    let chosen : _ = called .before .before .before in
-    let tested : _ = chosen .before .before .before .before .before in
+merge-mem-at-settle-requires t c κs = search needs
+
+merge-mem-at-loop-less-2 : (t : ℕ) → merge-mem-at-lts.Need-loop-less-2 (merge-mem-at-claims t) (merge-mem-at-at t) merge-mem-at′.Post merge-mem-at-Inv-loop merge-mem-at-μ-loop
+merge-mem-at-loop-less-2 t c =
+    let called : _ = c .before .before .before .before .before in
+    let asked : _ = called .before .before .before in
+    let chosen : _ = asked .before .before .before .before .before in
+    let tested : _ = chosen .before .before in
+    settled-falls (c .settle .ensures) (omega (arith, tested .if1 .taken, chosen .if2 .left))
+
+merge-mem-at-loop-again-2 : (t : ℕ) → merge-mem-at-lts.Need-loop-again-2 (merge-mem-at-claims t) (merge-mem-at-at t) merge-mem-at′.Post merge-mem-at-Inv-loop merge-mem-at-μ-loop
+merge-mem-at-loop-again-2 t c =
+    let called : _ = c .before .before .before .before .before in
+    let asked : _ = called .before .before .before in
+    let chosen : _ = asked .before .before .before .before .before in
+    let tested : _ = chosen .before .before in
     let known : _ = tested .before in
     let turn : _ = known .before in
-    pair-answered (turn .loop .inv) (tested .if1 .taken) refl refl refl _ (is-merging _ _ (chosen .if2 .taken)) (called .merge-mem .ensures .0) (called .merge-mem .kept .1 .1 .0) refl (omega (arith, known .struct-known .given))
-    (λ rule _. absurd (merges-none (turn .loop .inv) (tested .if1 .taken) refl refl refl (chosen .if2 .taken) rule))
-
-merge-mem-at-loop-less : (t : ℕ) → merge-mem-at-lts.Need-loop-less (merge-mem-at-claims t) (merge-mem-at-at t) merge-mem-at′.Post merge-mem-at-Inv-loop merge-mem-at-μ-loop
-merge-mem-at-loop-less t c =
-    let settled : _ = c .before .before .before .before in
-    let tested : _ = settled .before .before .before .before .before .before .before .before .before .before .before .before .before .before .before in
-    omega (arith, settled .settle .ensures .fall, settled .settle .ensures .numbers .todo, tested .if1 .taken)
-
-merge-mem-at-loop-again : (t : ℕ) → merge-mem-at-lts.Need-loop-again (merge-mem-at-claims t) (merge-mem-at-at t) merge-mem-at′.Post merge-mem-at-Inv-loop merge-mem-at-μ-loop
-merge-mem-at-loop-again t c =
-    let settled : _ = c .before .before .before .before in
-    let called : _ = settled .before .before .before .before .before .before .before in
-    let chosen : _ = called .before .before .before in
-    let tested : _ = chosen .before .before .before .before .before in
-    let known : _ = tested .before in
-    let turn : _ = known .before in
-    loop-again (turn .loop .inv) (tested .if1 .taken) refl refl refl _ (is-merging _ _ (chosen .if2 .taken)) (called .merge-mem .ensures .0) (called .merge-mem .kept .1 .1 .0) refl (omega (arith, known .struct-known .given)) (settled .settle .kept .0) (called .merge-mem .kept .1 .1 .1 .1 .1 .0) (settled .settle .kept .1 .1 .1 .0) (settled .settle .ensures)
+    loop-again (turn .loop .inv) (omega (arith, tested .if1 .taken, chosen .if2 .left)) refl refl refl (is-merging _ _ (asked .if3 .taken)) (called .merge-mem .ensures .0) (called .merge-mem .ensures .1) (called .merge-mem .kept .1 .1 .0) refl
+    (omega (arith, known .struct-known .given)) (called .merge-mem .kept .1 .1 .1 .1 .1 .0) (c .settle .ensures)
 
 merge-mem-at-sub-merge-mem-at : (t : ℕ) → merge-mem-at-lts.Need-sub-merge-mem-at (merge-mem-at-claims t) (merge-mem-at-at t) merge-mem-at′.Post merge-mem-at-Inv-loop merge-mem-at-μ-loop
 merge-mem-at-sub-merge-mem-at t c = search needs
@@ -177,41 +197,40 @@ merge-mem-at-part-merge-mem-at-start t c = search needs
 
 merge-mem-at-part-merge-mem-at-end : (t : ℕ) → merge-mem-at-lts.Need-part-merge-mem-at-end (merge-mem-at-claims t) (merge-mem-at-at t) merge-mem-at′.Post merge-mem-at-Inv-loop merge-mem-at-μ-loop
 merge-mem-at-part-merge-mem-at-end t c =
-    let turn : _ = c .before .before .before .before .before .before .before in
+    let turn : _ = c .before .before .before .before .before .before .before .before .before in
     omega (arith, turn .loop .inv .numbers .fits, turn .loop .inv .numbers .high, turn .loop .inv .len)
 
 merge-mem-at-merge-mem-at-requires : (t : ℕ) → merge-mem-at-lts.Need-merge-mem-at-requires (merge-mem-at-claims t) (merge-mem-at-at t) merge-mem-at′.Post merge-mem-at-Inv-loop merge-mem-at-μ-loop
 merge-mem-at-merge-mem-at-requires t c κs =
-    let tested : _ = c .before .before .before .before .before .before .before in
+    let chosen : _ = c .before .before .before .before .before .before .before in
+    let tested : _ = chosen .before .before in
     let turn : _ = tested .before .before in
     let start : _ = turn .before .before .before .before .before .before .before .before .before .before .before .before in
-    (omega (arith, turn .loop .inv .numbers .less, turn .loop .inv .numbers .fits, turn .loop .inv .numbers .high, tested .if1 .taken, start .pre .0), (pair-ready (turn .loop .inv) (tested .if1 .taken) refl refl refl, (pair-near (turn .loop .inv) (tested .if1 .taken) refl refl refl, pair-finger (turn .loop .inv) (tested .if1 .taken) refl refl refl)))
+    let L = turn .loop .inv in
+    let pair : 2 ≤ turn .loop .st .todo = omega (arith, tested .if1 .taken, chosen .if2 .left) in
+    (omega (arith, L .numbers .less, L .numbers .fits, L .numbers .high, tested .if1 .taken, start .pre .0), (pair-ready L pair refl refl refl, (pair-near L pair refl refl refl, pair-finger L pair refl refl refl)))
 
 merge-mem-at-settle-requires-2 : (t : ℕ) → merge-mem-at-lts.Need-settle-requires-2 (merge-mem-at-claims t) (merge-mem-at-at t) merge-mem-at′.Post merge-mem-at-Inv-loop merge-mem-at-μ-loop
-merge-mem-at-settle-requires-2 t c κs =
-    let called : _ = c .before .before .before .before .before .before in
-    let chosen : _ = called .before .before .before in
-    let tested : _ = chosen .before .before .before .before .before in
+merge-mem-at-settle-requires-2 t c κs = search needs
+
+merge-mem-at-loop-less-3 : (t : ℕ) → merge-mem-at-lts.Need-loop-less-3 (merge-mem-at-claims t) (merge-mem-at-at t) merge-mem-at′.Post merge-mem-at-Inv-loop merge-mem-at-μ-loop
+merge-mem-at-loop-less-3 t c =
+    let called : _ = c .before .before .before .before .before in
+    let asked : _ = called .before .before .before in
+    let chosen : _ = asked .before .before .before .before .before in
+    let tested : _ = chosen .before .before in
+    settled-falls (c .settle2 .ensures) (omega (arith, tested .if1 .taken, chosen .if2 .left))
+
+merge-mem-at-loop-again-3 : (t : ℕ) → merge-mem-at-lts.Need-loop-again-3 (merge-mem-at-claims t) (merge-mem-at-at t) merge-mem-at′.Post merge-mem-at-Inv-loop merge-mem-at-μ-loop
+merge-mem-at-loop-again-3 t c =
+    let called : _ = c .before .before .before .before .before in
+    let asked : _ = called .before .before .before in
+    let chosen : _ = asked .before .before .before .before .before in
+    let tested : _ = chosen .before .before in
     let known : _ = tested .before in
     let turn : _ = known .before in
-    pair-answered (turn .loop .inv) (tested .if1 .taken) refl refl refl _ (is-placing _ _ (turn .loop .inv .numbers .todo) (chosen .if2 .left)) (called .merge-mem-at .ensures .0) (called .merge-mem-at .kept .1 .1 .0) refl (omega (arith, known .struct-known .given))
-    (λ _. called .merge-mem-at .ensures .1 .of)
-
-merge-mem-at-loop-less-2 : (t : ℕ) → merge-mem-at-lts.Need-loop-less-2 (merge-mem-at-claims t) (merge-mem-at-at t) merge-mem-at′.Post merge-mem-at-Inv-loop merge-mem-at-μ-loop
-merge-mem-at-loop-less-2 t c =
-    let settled : _ = c .before .before .before .before in
-    let tested : _ = settled .before .before .before .before .before .before .before .before .before .before .before .before .before .before .before in
-    omega (arith, settled .settle2 .ensures .fall, settled .settle2 .ensures .numbers .todo, tested .if1 .taken)
-
-merge-mem-at-loop-again-2 : (t : ℕ) → merge-mem-at-lts.Need-loop-again-2 (merge-mem-at-claims t) (merge-mem-at-at t) merge-mem-at′.Post merge-mem-at-Inv-loop merge-mem-at-μ-loop
-merge-mem-at-loop-again-2 t c =
-    let settled : _ = c .before .before .before .before in
-    let called : _ = settled .before .before .before .before .before .before .before in
-    let chosen : _ = called .before .before .before in
-    let tested : _ = chosen .before .before .before .before .before in
-    let known : _ = tested .before in
-    let turn : _ = known .before in
-    loop-again (turn .loop .inv) (tested .if1 .taken) refl refl refl _ (is-placing _ _ (turn .loop .inv .numbers .todo) (chosen .if2 .left)) (called .merge-mem-at .ensures .0) (called .merge-mem-at .kept .1 .1 .0) refl (omega (arith, known .struct-known .given)) (settled .settle2 .kept .0) (called .merge-mem-at .kept .1 .1 .1 .1 .1 .1 .0) (settled .settle2 .kept .1 .1 .1 .0) (settled .settle2 .ensures)
+    loop-again (turn .loop .inv) (omega (arith, tested .if1 .taken, chosen .if2 .left)) refl refl refl (is-placing _ _ (turn .loop .inv .numbers .todo) (asked .if3 .left)) (called .merge-mem-at .ensures .0) (called .merge-mem-at .ensures .1) (called .merge-mem-at .kept .1 .1 .0) refl
+    (omega (arith, known .struct-known .given)) (called .merge-mem-at .kept .1 .1 .1 .1 .1 .1 .0) (c .settle2 .ensures)
 
 merge-mem-at-same-length : (t : ℕ) → merge-mem-at-lts.Need-same-length (merge-mem-at-claims t) (merge-mem-at-at t) merge-mem-at′.Post merge-mem-at-Inv-loop merge-mem-at-μ-loop
 merge-mem-at-same-length t c = search needs
@@ -250,6 +269,9 @@ pub +merge-mem+merge-mem-at-spec : {M : Type 1} → statement M
     (merge-mem-at-add-total t)
     (merge-mem-at-begin-requires t)
     (merge-mem-at-loop-holds t)
+    (merge-mem-at-step-requires t)
+    (merge-mem-at-loop-less t)
+    (merge-mem-at-loop-again t)
     (merge-mem-at-mul-x t)
     (merge-mem-at-add-e t)
     (merge-mem-at-add-e-2 t)
@@ -259,15 +281,15 @@ pub +merge-mem+merge-mem-at-spec : {M : Type 1} → statement M
     (merge-mem-at-part-merge-mem-end t)
     (merge-mem-at-merge-mem-requires t)
     (merge-mem-at-settle-requires t)
-    (merge-mem-at-loop-less t)
-    (merge-mem-at-loop-again t)
+    (merge-mem-at-loop-less-2 t)
+    (merge-mem-at-loop-again-2 t)
     (merge-mem-at-sub-merge-mem-at t)
     (merge-mem-at-part-merge-mem-at-start t)
     (merge-mem-at-part-merge-mem-at-end t)
     (merge-mem-at-merge-mem-at-requires t)
     (merge-mem-at-settle-requires-2 t)
-    (merge-mem-at-loop-less-2 t)
-    (merge-mem-at-loop-again-2 t)
+    (merge-mem-at-loop-less-3 t)
+    (merge-mem-at-loop-again-3 t)
     (merge-mem-at-same-length t)
     (merge-mem-at-same-length-2 t)
     (merge-mem-at-returns t)

@@ -1,4 +1,4 @@
--- `arrays::todo_at` meets its contract. At 0 it is 2, and else 1.
+-- `arrays::todo_at` meets its contract. At 0 it is 3, and else 2.
 -- Assumes nothing.
 use borrow.Author.Needs.{needs}
 use Rattle.arrays.proofs.Tests.{todo-later}

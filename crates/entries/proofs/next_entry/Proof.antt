@@ -15,7 +15,7 @@ returns : tie.Need-returns
 returns c = search (next-none, needs)
 
 entry-nodes-requires : tie.Need-entry-nodes-requires
-entry-nodes-requires c κs = (search needs, c .before .before .before .before .pre .1 .0 .first (c .before .if1 .left))
+entry-nodes-requires c κs = (search needs, c .before .before .before .before .pre .1 .first (c .before .if1 .left))
 
 sub-left : tie.Need-sub-left
 sub-left c = search needs

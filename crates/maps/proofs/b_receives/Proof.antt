@@ -17,11 +17,11 @@ turn-requires c κs = search needs
 of-entry-requires : tie.Need-of-entry-requires
 of-entry-requires c κs = search needs
 
-sub-t19 : tie.Need-sub-t19
-sub-t19 c = search needs
+sub-t17 : tie.Need-sub-t17
+sub-t17 c = search needs
 
-sub-t20 : tie.Need-sub-t20
-sub-t20 c = search needs
+sub-t18 : tie.Need-sub-t18
+sub-t18 c = search needs
 
 same-length : tie.Need-same-length
 same-length c = search needs
@@ -40,8 +40,8 @@ b-receives-spec =
     offset-requires
     turn-requires
     of-entry-requires
-    sub-t19
-    sub-t20
+    sub-t17
+    sub-t18
     same-length
     same-length-2
     returns)

@@ -1,7 +1,7 @@
--- `maps::begin_join` meets its contract. Two returns refuse; the third hands over to `next_join`, and with its answer the goal is reached.
+-- `maps::begin_join` meets its contract. Two returns refuse; the third leaves b standing, and with it the goal will be reached.
 -- Assumes nothing.
 use borrow.Author.Needs.{needs}
-use Rattle.maps.proofs.Beginning.{entries-lie, refused-end, refused-entry, begun-waits, begun-starts}
+use Rattle.maps.proofs.Beginning.{entries-lie, refused-end, refused-entry, begun-starts}
 use Rattle.maps.proofs.begin_join.Statement.{statement}
 use Rattle.maps.proofs.begin_join.Tie as tie
 
@@ -38,29 +38,14 @@ sub-turn c = search needs
 turn-requires : tie.Need-turn-requires
 turn-requires c κs = search needs
 
-sub-next-join : tie.Need-sub-next-join
-sub-next-join c = search needs
-
-add-t23 : tie.Need-add-t23
-add-t23 c = search needs
-
 byte-requires : tie.Need-byte-requires
 byte-requires c κs = search needs
 
-add-next-join : tie.Need-add-next-join
-add-next-join c = search needs
+sub-t21 : tie.Need-sub-t21
+sub-t21 c = search needs
 
-next-join-requires : tie.Need-next-join-requires
-next-join-requires c κs =
-    let turned : _ = c .before .before .before .before .before .before .before .before .before in
-    let fine : _ = turned .before .before in
-    let searched : _ = fine .before in
-    let within : _ = searched .before .before in
-    let tested : _ = within .before in
-    let ended : _ = tested .before in
-    let start : _ = ended .before .before .before .before in
-    begun-waits _ _ _ _ _ _ _ _ (start .fits .d .fits) (start .pre .1 .0) (start .pre .1 .1 .0) (ended .end-at .ensures) (tested .past32 .ensures) (within .if1 .left)
-    (searched .overlapping .ensures) (fine .if2 .left) (turned .turn .ensures) (start .pre .0) (turned .turn .kept .0)
+add-t24 : tie.Need-add-t24
+add-t24 c = search needs
 
 same-length-3 : tie.Need-same-length-3
 same-length-3 c = search needs
@@ -70,15 +55,16 @@ same-length-4 c = search needs
 
 returns-3 : tie.Need-returns-3
 returns-3 c =
-    let turned : _ = c .before .before .before .before .before .before .before .before .before .before .before .before .before .before in
+    let written : _ = c .before .before .before in
+    let turned : _ = written .before .before .before .before in
     let fine : _ = turned .before .before in
     let searched : _ = fine .before in
     let within : _ = searched .before .before in
     let tested : _ = within .before in
     let ended : _ = tested .before in
     let start : _ = ended .before .before .before .before in
-    begun-starts _ _ _ _ _ _ _ _ (start .fits .d .fits) (start .pre .1 .0) (start .pre .1 .1 .0) (ended .end-at .ensures) (tested .past32 .ensures) (within .if1 .left)
-    (searched .overlapping .ensures) (fine .if2 .left) (turned .turn .ensures) (start .pre .0) (c .before .before .before .before .before .before .before .before .before .byte .ensures) (c .before .before .before .before .next-join .ensures)
+    begun-starts _ _ _ _ _ _ _ _ _ (start .fits .d .fits) (start .pre .1 .0) (start .pre .1 .1 .0) (ended .end-at .ensures) (tested .past32 .ensures) (within .if1 .left)
+    (searched .overlapping .ensures) (fine .if2 .left) (turned .turn .ensures) (start .pre .0) (written .byte .ensures)
 
 pub begin-join-spec : {M : Type 1} → statement M
 begin-join-spec =
@@ -95,11 +81,9 @@ begin-join-spec =
     returns-2
     sub-turn
     turn-requires
-    sub-next-join
-    add-t23
     byte-requires
-    add-next-join
-    next-join-requires
+    sub-t21
+    add-t24
     same-length-3
     same-length-4
     returns-3)

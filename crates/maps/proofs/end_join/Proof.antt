@@ -40,7 +40,7 @@ returns c =
     let above : _ = shifted .before .before in
     let below : _ = above .before .before in
     let start : _ = below .before .before .before in
-    λ rep. ends _ _ _ _ _ _ _ _ _ _ _ _ _ (start .pre .0) (start .pre .1 .0) (start .pre .1 .1) (below .replaced-below .ensures) (above .replaced-above .ensures)
+    λ rep. ends _ _ _ _ _ _ _ _ _ _ (start .pre .0) (start .pre .1 .0) (start .pre .1 .1) (below .replaced-below .ensures) (above .replaced-above .ensures)
     (shifted .put-offset .ensures) (moved .move-down .ensures) (closed .close .ensures) (c .before .without-heading .ensures) rep (c .finished-at .ensures)
 
 pub end-join-spec : {M : Type 1} → statement M

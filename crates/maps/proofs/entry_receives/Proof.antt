@@ -14,11 +14,11 @@ offset-requires c κs = search needs
 of-entry-requires : tie.Need-of-entry-requires
 of-entry-requires c κs = search needs
 
-sub-t13 : tie.Need-sub-t13
-sub-t13 c = search needs
+sub-t10 : tie.Need-sub-t10
+sub-t10 c = search needs
 
-sub-t14 : tie.Need-sub-t14
-sub-t14 c = search needs
+sub-t11 : tie.Need-sub-t11
+sub-t11 c = search needs
 
 same-length : tie.Need-same-length
 same-length c = search needs
@@ -29,4 +29,4 @@ returns c = search (entry-took, needs)
 pub entry-receives-spec : {M : Type 1} → statement M
 entry-receives-spec =
     tie.close
-    (tie.spec sub-m offset-requires of-entry-requires sub-t13 sub-t14 same-length returns)
+    (tie.spec sub-m offset-requires of-entry-requires sub-t10 sub-t11 same-length returns)

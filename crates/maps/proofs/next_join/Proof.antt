@@ -45,7 +45,7 @@ returns-2 c =
     let offset : _ = first .before .before in
     let last : _ = offset .before .before in
     let start : _ = last .before .before .before .before .before in
-    lower-straddles _ _ _ _ _ _ _ _ _ _ _ (start .pre .0) (start .pre .1) (last .last .ensures) (offset .offset .ensures) (first .end-at .ensures) (second .end-at2 .ensures)
+    lower-straddles _ _ _ _ _ _ _ _ (start .pre .0) (start .pre .1) (last .last .ensures) (offset .offset .ensures) (first .end-at .ensures) (second .end-at2 .ensures)
     (c .before .before .before .before .before .before .before .before .if2 .taken) (c .before .before .before .before .before .before .before .if3 .taken) (c .before .before .before .before .straddle .ensures)
 
 entry-receives-requires : tie.Need-entry-receives-requires
@@ -64,7 +64,7 @@ returns-3 c =
     let offset : _ = first .before .before in
     let last : _ = offset .before .before in
     let start : _ = last .before .before .before .before .before in
-    lower-receives _ _ _ _ _ _ _ _ _ _ _ (start .pre .0) (start .pre .1) (last .last .ensures) (offset .offset .ensures) (first .end-at .ensures) (second .end-at2 .ensures)
+    lower-receives _ _ _ _ _ _ _ _ (start .pre .0) (start .pre .1) (last .last .ensures) (offset .offset .ensures) (first .end-at .ensures) (second .end-at2 .ensures)
     (c .before .before .before .before .before .before .if2 .taken) (c .before .before .before .before .before .if3 .left) (c .before .before .entry-receives .ensures)
 
 straddle-requires-2 : tie.Need-straddle-requires-2
@@ -83,7 +83,7 @@ returns-4 c =
     let offset : _ = first .before .before in
     let last : _ = offset .before .before in
     let start : _ = last .before .before .before .before .before in
-    upper-straddles _ _ _ _ _ _ _ _ _ _ _ (start .pre .0) (start .pre .1) (last .last .ensures) (offset .offset .ensures) (first .end-at .ensures) (second .end-at2 .ensures)
+    upper-straddles _ _ _ _ _ _ _ _ (start .pre .0) (start .pre .1) (last .last .ensures) (offset .offset .ensures) (first .end-at .ensures) (second .end-at2 .ensures)
     (c .before .before .before .before .before .before .before .before .if4 .taken) (c .before .before .before .before .before .before .before .if5 .taken) (c .before .before .before .before .straddle2 .ensures)
 
 b-receives-requires : tie.Need-b-receives-requires
@@ -102,7 +102,7 @@ returns-5 c =
     let offset : _ = first .before .before in
     let last : _ = offset .before .before in
     let start : _ = last .before .before .before .before .before in
-    upper-receives _ _ _ _ _ _ _ _ _ _ _ (start .pre .0) (start .pre .1) (last .last .ensures) (offset .offset .ensures) (first .end-at .ensures) (second .end-at2 .ensures)
+    upper-receives _ _ _ _ _ _ _ _ (start .pre .0) (start .pre .1) (last .last .ensures) (offset .offset .ensures) (first .end-at .ensures) (second .end-at2 .ensures)
     (c .before .before .before .before .before .before .before .before .if4 .taken) (c .before .before .before .before .before .before .before .if5 .left) (c .before .before .before .before .b-receives .ensures)
 
 b-receives-requires-2 : tie.Need-b-receives-requires-2
@@ -121,7 +121,7 @@ returns-6 c =
     let offset : _ = first .before .before in
     let last : _ = offset .before .before in
     let start : _ = last .before .before .before .before .before in
-    equal-merges _ _ _ _ _ _ _ _ _ _ _ (start .pre .0) (start .pre .1) (last .last .ensures) (offset .offset .ensures) (first .end-at .ensures) (second .end-at2 .ensures)
+    equal-merges _ _ _ _ _ _ _ _ (start .pre .0) (start .pre .1) (last .last .ensures) (offset .offset .ensures) (first .end-at .ensures) (second .end-at2 .ensures)
     (c .before .before .before .before .before .before .before .before .if2 .left) (c .before .before .before .before .before .before .before .if4 .left) (c .before .before .before .before .b-receives2 .ensures)
 
 pub next-join-spec : {M : Type 1} → statement M
