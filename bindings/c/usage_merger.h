@@ -4,7 +4,8 @@
  * A slice is a pointer and a length in bytes. A slice that is written (work, output, report, answer)
  * must not overlap any other slice of the call. No pointer may be null, not even with a length of 0.
  * Bytes need no alignment. The library keeps no pointer, allocates nothing and has no state: calls
- * with slices of their own may run at the same time.
+ * with slices of their own may run at the same time. Merging and asking types for support recurse:
+ * 1 MiB of stack is enough for every call, and the deepest inputs take nearly all of it.
  *
  * Every input is answered. What breaks the format is refused by a number and changes nothing but
  * the report buffer, which is zeroed. docs/SPECIFICATION.md has the formats and the rules; all
@@ -98,8 +99,8 @@ enum qptr_report {
 uint32_t qptr_receiver(const uint8_t *first, size_t first_length,
                        const uint8_t *second, size_t second_length);
 
-/* Whether a type supports the usage of a Memory stream at an offset. Recurses over types and nodes:
- * the deepest accepted input takes about 440 KiB of stack. */
+/* Whether a type supports the usage of a Memory stream at an offset. Answers are remembered on the
+ * way, so that small questions are quick; docs/DIFFERENCES.md says where that does not help. */
 void qptr_supports(const uint8_t *table, size_t table_length, uint8_t *work, size_t work_length,
                    uint32_t type, uint32_t offset, const uint8_t *stream, size_t stream_length,
                    uint64_t answer[QPTR_ANSWER_LENGTH]);
@@ -109,8 +110,7 @@ void qptr_sound(const uint8_t *table, size_t table_length, uint8_t *work, size_t
                 const uint8_t *stream, size_t stream_length, uint64_t answer[QPTR_ANSWER_LENGTH]);
 
 /* The next three write the usage, a top, to the start of the output and keep the rest of it; and the
- * report to the start of its buffer, followed by zeros. They ask types for support, so they need
- * the stack of qptr_supports. */
+ * report to the start of its buffer, followed by zeros. */
 
 /* Places the second Memory stream's usage into the first's, at an offset. */
 void qptr_place(const uint8_t *table, size_t table_length, uint8_t *work, size_t work_length,

@@ -17,11 +17,15 @@ const MOST: usize = 1024;
 const STEP: usize = 8;
 
 /// What each is called on the command line, and in words.
-const SHAPES: [(&str, &str); 6] = [
+const SHAPES: [(&str, &str); 7] = [
     ("chain", "merge: a chain of 510 maps over a leaf, and a leaf"),
     ("chains", "merge: two chains of 255 maps"),
     ("arrays", "merge: two nests of 255 arrays"),
     ("types", "merge: a leaf whose type is nested 1,023 deep, and a chain of 510 maps"),
+    (
+        "arrays-types",
+        "merge: two nests of 254 arrays, one over such a leaf, the other over two maps and a leaf",
+    ),
     ("fold", "fold: a chain of 255 maps and 253 leaves"),
     ("supports", "supports: a type nested 1,023 deep, a chain of 511 maps"),
 ];
@@ -88,6 +92,11 @@ fn call(name: &str) -> Option<Call> {
         "types" => {
             table = chained(1_024);
             pair(&notation::usage("D4,1023"), &nested_maps(511))
+        }
+        "arrays-types" => {
+            table = chained(1_024);
+            let nest = |inside| notation::usage(&format!("{}{inside}", "A4,4,".repeat(254)));
+            pair(&nest("D4,1023"), &nest("O4[0:O4[0:D4,0]]"))
         }
         "fold" => {
             let nodes: Vec<Usage> =

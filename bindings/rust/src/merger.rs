@@ -24,9 +24,9 @@ const FIRST_REPORT: usize = 256;
 /// answer needs more. Nothing that a call answers depends on the calls before it.
 ///
 /// Usages of over 512 nodes together are refused, not merged; a larger value is still written and
-/// read whole before that. Support recurses over types and usages in the library: the deepest
-/// accepted input takes about 440 KiB of stack, and some small questions take long, as they do in
-/// the source.
+/// read whole before that. Merging and support recurse in the library: 1 MiB of stack is enough for
+/// every call, and the deepest accepted inputs take nearly all of it. Support remembers answers, so
+/// that small questions which take the source very long are answered at once.
 ///
 /// ```
 /// use usage_merger::{QPtrMemUsage, Table, UsageMerger};
@@ -273,7 +273,8 @@ impl UsageMerger {
         Setting { table: &self.table, work: &mut self.work }
     }
 
-    /// Asks until the buffers are long enough. The usage is never longer than what it is made of.
+    /// Asks until the buffers are long enough. The usage is seldom longer than what it is made of: a
+    /// node that becomes an entry gets an offset.
     fn written(
         &mut self,
         input: usize,

@@ -1,7 +1,9 @@
-//! Deep input on a small stack: reading, writing and refusing need next to none of it.
+//! Deep input on a small stack: reading, writing and refusing need next to none of it, merging at
+//! most a mebibyte.
 
 use std::thread;
-use usage_merger::{QPtrMemUsage, QPtrMemUsageKind};
+use usage_merger::calls::{Buffers, MOST_NODES, Setting, WORK_AREA, merge};
+use usage_merger::{QPtrMemUsage, QPtrMemUsageKind, Table};
 
 /// Runs something on a thread with this much stack.
 fn on_stack<T: Send + 'static>(kibibytes: usize, run: impl FnOnce() -> T + Send + 'static) -> T {
@@ -37,4 +39,23 @@ fn a_deep_value_is_written() {
     while let QPtrMemUsageKind::OffsetBase(entries) = left.kind {
         left = entries.into_values().next().unwrap();
     }
+}
+
+/// The deepest merge that is known: 512 nodes, each of which is one level, and 1,024 types below.
+#[test]
+fn a_mebibyte_is_enough_for_the_deepest_merge() {
+    let wrappers: String = (0..1_023).map(|ty| format!("; fields 4 {{0:{ty}}}")).collect();
+    let table: Table = format!("scalar 4{wrappers}").parse().unwrap();
+    let nest = |inside: &str| format!("{}{inside}", "A4,4,".repeat(254)).parse().unwrap();
+    let (first, second): (QPtrMemUsage, QPtrMemUsage) = (nest("D4,1023"), nest("O4[0:O4[0:D4,0]]"));
+    assert_eq!(first.nodes() + second.nodes(), MOST_NODES);
+    let streams = [&first, &second].map(|usage| usage.to_bytes().unwrap());
+    let table = table.to_bytes().unwrap();
+    let answer = on_stack(1024, move || {
+        let (mut work, mut output, mut report) = (vec![0; WORK_AREA], vec![0; 8_192], vec![0; 64]);
+        let setting = Setting { table: &table, work: &mut work };
+        let to = Buffers { output: &mut output, report: &mut report };
+        merge(setting, &streams[0], &streams[1], to)
+    });
+    assert_eq!((answer.number, answer.pairings), (0, 511));
 }
