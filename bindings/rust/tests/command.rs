@@ -70,8 +70,15 @@ fn handles_and_buffers_are_merged() {
     assert!(unlike.contains("  opaque handle, type 4 (handle)\n"), "{unlike}");
     assert!(unlike.contains("the two are unlike handles, or a handle and memory"), "{unlike}");
     assert!(unlike.contains("0 pairings, of at most 0"), "{unlike}");
+    // Here the answer is not as large as the largest.
+    for pair in [["Buffer D4,0", "D8,2"], ["Opaque 4", "D8,2"], ["Opaque 4", "Opaque 4"]] {
+        let kept = shown(&pair);
+        let promise = "nothing is merged: never 8 or 9, and the answer is the first as it stands";
+        assert!(kept.contains(promise) && !kept.contains("the largest"), "{kept}");
+    }
     let buffers = shown(&["Buffer D4,0", "Buffer U8"]);
     assert!(buffers.contains("  buffer of\n  DirectAccess, 8 bytes"), "{buffers}");
+    assert!(buffers.contains("as large as the largest"), "{buffers}");
 }
 
 #[test]
@@ -81,6 +88,12 @@ fn more_usages_are_folded_and_one_stays() {
     assert!(folded.contains("\n4th     Memory D8,2"), "{folded}");
     assert!(folded.contains("\nfolded  Memory D8,2"), "{folded}");
     assert!(folded.contains("  merging in the third: entry at 0: no type here"), "{folded}");
+    let many = shown(&["D4,0"; 24]);
+    for name in
+        ["\n11th    M", "\n12th    M", "\n21st    M", "\n22nd    M", "\n23rd    M", "\n24th    M"]
+    {
+        assert!(many.contains(name), "{many}");
+    }
     let one = shown(&["O8[0:D4,0]"]);
     assert!(one.contains("folded  Memory O8[0:D4,0]") && one.contains("0 pairings"), "{one}");
 }
@@ -94,7 +107,9 @@ fn a_usage_is_placed_at_an_offset() {
     assert!(failed(2, &["--at", "8", "U4"]).contains("--at takes two usages, not 1"));
     assert!(failed(2, &["--at", "8", "Opaque 1", "U4"]).contains("is no memory"));
     assert!(failed(2, &["--at", "x8", "U4", "U4"]).ends_with("  x8\n  ^\n"));
-    assert!(failed(1, &["--at", "13", "O16[0:D4,0]", "D4,1"]).contains("outgrown"));
+    let outgrown = failed(1, &["--at", "13", "O16[0:D4,0]", "D4,1"]);
+    assert!(outgrown.contains("refusal 8, outgrown"), "{outgrown}");
+    assert!(outgrown.contains("all usages are sound; placing at an offset may"), "{outgrown}");
 }
 
 #[test]

@@ -17,7 +17,8 @@ pub struct Answer {
     /// Whether each usage is sound. A handle has nothing that could be unsound.
     pub sound: Vec<bool>,
     pub result_sound: bool,
-    /// Of two memories that are merged: which receives.
+    /// Of two usages that are merged: which receives. Nothing is merged where they are handles, or
+    /// a handle and a memory.
     pub receiver: Option<Receiver>,
 }
 
@@ -86,6 +87,17 @@ pub fn name(index: usize) -> String {
         0 => "first".into(),
         1 => "second".into(),
         2 => "third".into(),
-        index => format!("{}th", index.saturating_add(1)),
+        index => ordinal(index.saturating_add(1)),
     }
+}
+
+fn ordinal(number: usize) -> String {
+    let ending = match (number % 100, number % 10) {
+        (11..=13, _) => "th",
+        (_, 1) => "st",
+        (_, 2) => "nd",
+        (_, 3) => "rd",
+        _ => "th",
+    };
+    format!("{number}{ending}")
 }

@@ -184,6 +184,8 @@ fn limits(text: &mut String, question: &Question, answer: &Answer) {
     let unsound: Vec<String> = unsound(&answer.sound);
     let promise = if question.at.is_some() {
         "placing at an offset may be refused with 8 or 9, of sound usages too".into()
+    } else if question.merges_tops() && answer.receiver.is_none() {
+        "nothing is merged: never 8 or 9, and the answer is the first as it stands".into()
     } else if unsound.is_empty() {
         "all usages are sound: never 8 or 9, a sound answer, as large as the largest".into()
     } else {
@@ -215,12 +217,15 @@ fn reason(question: &Question, refusal: Refusal) -> Option<String> {
         Refusal::Outgrown | Refusal::PastBits => {
             let mut merger = UsageMerger::new(&question.table).ok()?;
             let unsound = unsound(&question.sound(&mut merger).ok()?);
-            let named = if unsound.is_empty() { "none".into() } else { unsound.join(", ") };
-            let promise = match question.at {
-                None => "; sound usages are never refused so",
-                Some(_) => "",
+            let named = match unsound.is_empty() {
+                true => "all usages are sound".into(),
+                false => format!("not sound: {}", unsound.join(", ")),
             };
-            Some(format!("not sound: {named}{promise}"))
+            let promise = match question.at {
+                None => "sound usages are never refused so",
+                Some(_) => "placing at an offset may be refused so, of sound usages too",
+            };
+            Some(format!("{named}; {promise}"))
         }
         _ => None,
     }
