@@ -3,10 +3,12 @@
 use super::published::{Components, LayoutError, MemTypeLayout, QPtrUsage, TypeLayout, shapes};
 use crate::usage::{self, Record, Table};
 use std::borrow::Cow;
+use std::iter::Take;
 use std::marker::PhantomData;
 use std::num::NonZeroU32;
 use std::ops::Deref;
 use std::rc::Rc;
+use std::{array, vec};
 
 /// A type is its number in document 01's table.
 #[derive(Clone, Copy, Debug, PartialEq, Eq, Hash)]
@@ -74,15 +76,69 @@ impl<L: Iterator, R: Iterator<Item = L::Item>> Iterator for Either<L, R> {
     }
 }
 
-/// A vector that is named after an array type.
-pub struct SmallVec<A: Array>(Vec<A::Item>);
+/// A vector that is named after an array type. Numbers stand inline up to the array's length, as in the source: merging makes such a
+/// vector for each placing in a map. Layouts, which are made once, do not.
+pub struct SmallVec<A: Array>(A::Store);
 
 pub trait Array {
     type Item;
+    type Store: FromIterator<Self::Item>
+        + Deref<Target = [Self::Item]>
+        + IntoIterator<Item = Self::Item>;
 }
 
-impl<T, const N: usize> Array for [T; N] {
-    type Item = T;
+impl<const N: usize> Array for [u32; N] {
+    type Item = u32;
+    type Store = Numbers<N>;
+}
+
+impl<const N: usize> Array for [Rc<MemTypeLayout>; N] {
+    type Item = Rc<MemTypeLayout>;
+    type Store = Vec<Rc<MemTypeLayout>>;
+}
+
+/// Numbers: the first N without an allocation; all of them in a vector if there are more.
+pub enum Numbers<const N: usize> {
+    Few([u32; N], usize),
+    Many(Vec<u32>),
+}
+
+impl<const N: usize> FromIterator<u32> for Numbers<N> {
+    fn from_iter<I: IntoIterator<Item = u32>>(items: I) -> Self {
+        let (mut few, mut count) = ([0; N], 0);
+        let mut items = items.into_iter();
+        while let Some(item) = items.next() {
+            if count == N {
+                return Numbers::Many(few.into_iter().chain([item]).chain(items).collect());
+            }
+            few[count] = item;
+            count += 1;
+        }
+        Numbers::Few(few, count)
+    }
+}
+
+impl<const N: usize> Deref for Numbers<N> {
+    type Target = [u32];
+
+    fn deref(&self) -> &[u32] {
+        match self {
+            Numbers::Few(few, count) => &few[..*count],
+            Numbers::Many(many) => many,
+        }
+    }
+}
+
+impl<const N: usize> IntoIterator for Numbers<N> {
+    type Item = u32;
+    type IntoIter = Either<Take<array::IntoIter<u32, N>>, vec::IntoIter<u32>>;
+
+    fn into_iter(self) -> Self::IntoIter {
+        match self {
+            Numbers::Few(few, count) => Either::Left(few.into_iter().take(count)),
+            Numbers::Many(many) => Either::Right(many.into_iter()),
+        }
+    }
 }
 
 impl<A: Array> FromIterator<A::Item> for SmallVec<A> {
@@ -101,7 +157,7 @@ impl<A: Array> Deref for SmallVec<A> {
 
 impl<A: Array> IntoIterator for SmallVec<A> {
     type Item = A::Item;
-    type IntoIter = std::vec::IntoIter<A::Item>;
+    type IntoIter = <A::Store as IntoIterator>::IntoIter;
 
     fn into_iter(self) -> Self::IntoIter {
         self.0.into_iter()
@@ -189,5 +245,21 @@ fn handle(ty: Type) -> TypeLayout {
     match ty.0 % 2 {
         0 => TypeLayout::Handle(handle),
         _ => TypeLayout::HandleArray(handle, NonZeroU32::new(ty.0)),
+    }
+}
+
+#[cfg(test)]
+mod tests {
+    use super::*;
+
+    #[test]
+    fn numbers_are_the_same_inline_and_not() {
+        for count in [0, 1, 3, 4, 5, 9] {
+            let numbers = || (0..count).collect::<SmallVec<[u32; 4]>>();
+            let expected: Vec<u32> = (0..count).collect();
+            assert_eq!(*numbers(), *expected);
+            assert_eq!(numbers().into_iter().collect::<Vec<u32>>(), expected);
+            assert_eq!(matches!(numbers().0, Numbers::Few(..)), count <= 4);
+        }
     }
 }
