@@ -1,5 +1,6 @@
 -- `records::swap` meets its contract. Both records are read before either is written.
 -- Assumes nothing.
+use mathlib.Core.Path.{_∙_}
 use native.Mathlib.Omega.{arith}
 use borrow.Author.Needs.{needs}
 use Rattle.records.proofs.Writing.{swapped}
@@ -42,54 +43,81 @@ argument-requires c κs = search needs
 offset-requires : tie.Need-offset-requires
 offset-requires c κs = search needs
 
+-- From here on so much lies behind that a search is slow. The start, as each place sees it, has what is asked: what the function requires,
+-- and how many bytes there can be.
+
+abbrev start-jc : tie.After-command-arg2 → tie.Start
+start-jc c =
+    let t : _ = c .before .before .before .before in
+    let f : _ = t .before .before .before .before in
+    f .before .before .before .before .before .before
+
+abbrev start-jn : tie.After-get32-arg4 → tie.Start
+start-jn c = start-jc (c .before .before)
+
+abbrev start-jf : tie.After-get32-arg5 → tie.Start
+start-jf c = start-jn (c .before .before)
+
+abbrev start-jz : tie.After-get32-arg6 → tie.Start
+start-jz c = start-jf (c .before .before)
+
+abbrev start-jt : tie.After-argument-arg2 → tie.Start
+start-jt c = start-jz (c .before .before)
+
+abbrev start-jo : tie.After-offset-arg2 → tie.Start
+start-jo c = start-jt (c .before .before)
+
+abbrev start-w₁ : tie.After-put-words-arg → tie.Start
+start-w₁ c = start-jo (c .before .before)
+
 command-requires-2 : tie.Need-command-requires-2
-command-requires-2 c κs = search needs
+command-requires-2 c κs = start-jc c .pre .1
 
 mul-get32-4 : tie.Need-mul-get32-4
-mul-get32-4 c = search needs
+mul-get32-4 c = omega (arith, start-jn c .pre, start-jn c .good)
 
 add-get32-4 : tie.Need-add-get32-4
-add-get32-4 c = search needs
+add-get32-4 c = omega (arith, start-jn c .pre, start-jn c .good)
 
 get32-requires-4 : tie.Need-get32-requires-4
-get32-requires-4 c κs = search needs
+get32-requires-4 c κs = omega (arith, start-jn c .pre)
 
 mul-get32-5 : tie.Need-mul-get32-5
-mul-get32-5 c = search needs
+mul-get32-5 c = omega (arith, start-jf c .pre, start-jf c .good)
 
 add-get32-5 : tie.Need-add-get32-5
-add-get32-5 c = search needs
+add-get32-5 c = omega (arith, start-jf c .pre, start-jf c .good)
 
 get32-requires-5 : tie.Need-get32-requires-5
-get32-requires-5 c κs = search needs
+get32-requires-5 c κs = omega (arith, start-jf c .pre)
 
 mul-get32-6 : tie.Need-mul-get32-6
-mul-get32-6 c = search needs
+mul-get32-6 c = omega (arith, start-jz c .pre, start-jz c .good)
 
 add-get32-6 : tie.Need-add-get32-6
-add-get32-6 c = search needs
+add-get32-6 c = omega (arith, start-jz c .pre, start-jz c .good)
 
 get32-requires-6 : tie.Need-get32-requires-6
-get32-requires-6 c κs = search needs
+get32-requires-6 c κs = omega (arith, start-jz c .pre)
 
 argument-requires-2 : tie.Need-argument-requires-2
-argument-requires-2 c κs = search needs
+argument-requires-2 c κs = start-jt c .pre .1
 
 offset-requires-2 : tie.Need-offset-requires-2
-offset-requires-2 c κs = search needs
+offset-requires-2 c κs = start-jo c .pre .1
 
 put-words-requires : tie.Need-put-words-requires
-put-words-requires c κs = search needs
+put-words-requires c κs = omega (arith, start-w₁ c .pre)
 
 put-words-requires-2 : tie.Need-put-words-requires-2
 put-words-requires-2 c κs =
-    let w : _ = c .before .before .before in
-    let jc : _ = w .before .before .before .before .before .before .before .before .before .before .before .before in
-    let k : _ = jc .before .before .before .before .before .before .before .before .before .before .before .before in
-    omega (arith, w .put-words .kept .0, k .before .before .before .pre .1)
+    let w₁ : _ = c .before .before .before in
+    omega (arith, w₁ .put-words .kept .0, start-w₁ (w₁ .before) .pre .1)
 
 same-length : tie.Need-same-length
-same-length c = search needs
+same-length c =
+    let w₂ : _ = c .before .before in
+    w₂ .put-words2 .kept .0 ∙ w₂ .before .before .before .before .put-words .kept .0
 
 returns : tie.Need-returns
 returns c =
