@@ -58,6 +58,10 @@ module _ {table places list : List ℕ} {f : Folded} {work : List ℕ} (ready : 
     pub next-room : (f .result .nodes + next .nodes) * 32 ≤ workLimit
     next-room = omega (arith, next-few)
 
+    -- loading a node leaves the work area as long as it was
+    pub next-inside : length work₁ ≡ length work → (f .result .nodes + next .nodes) * 32 ≤ length work₁
+    next-inside same = omega (arith, next-room, ready .enough)
+
     module _ (inside : (f .result .nodes + next .nodes) * 32 ≤ length work₁) where
       next-two : (st : Setting) (a b : Usage) (rest : List ℕ) → Beside table places list f work st a b rest
           → Two (length (st .table)) (lent (f .result .nodes) (next .nodes) work₁) (f .result .nodes) (next .nodes) a b

@@ -2,7 +2,7 @@
 -- and fewer nodes are left at each turn. A refusal ends the fold.
 -- Assumes nothing.
 use Prim.Native.Nat.{_-_}
-use mathlib.Core.Path.{_≡_, refl}
+use mathlib.Core.Path.{_≡_, refl, _∙_}
 use native.Mathlib.Omega.{arith}
 use borrow.Author.Needs.{needs}
 use lib.ListN.{length}
@@ -52,10 +52,10 @@ fold-next-requires c κs =
     turn-ready (here .loop .inv .0 (ready .setting) (ready .listed) (ready .foldable)) (ready .foldable .known) (c .before .before .loop-test .taken) (omega (arith, ready .enough, here .loop .inv .1))
 
 same-length : tie.Need-same-length Inv-loop μ-loop
-same-length c = omega (arith, c .before .before .before .before .before .before .before .before .before .before .before .loop .inv .1)
+same-length c = c .before .before .before .before .before .before .before .fold-next .kept .1 .1 .1 .1 .1 .0 ∙ c .before .before .before .before .before .before .before .before .before .before .before .loop .inv .1 ∙ c .before .before .before .before .before .before .before .before .before .before .before .before .before .before .load-node .kept .1 .1 .0
 
 same-length-2 : tie.Need-same-length-2 Inv-loop μ-loop
-same-length-2 c = omega (arith, c .before .before .before .before .before .before .before .before .before .before .before .loop .inv .2)
+same-length-2 c = c .before .before .before .before .before .before .before .fold-next .kept .1 .1 .1 .1 .1 .1 .0 ∙ c .before .before .before .before .before .before .before .before .before .before .before .loop .inv .2
 
 returns : tie.Need-returns Inv-loop μ-loop
 returns c =
@@ -72,13 +72,13 @@ loop-less c = search needs
 loop-again : tie.Need-loop-again Inv-loop μ-loop
 loop-again c =
     let inv = c .before .before .before .before .before .before .before .before .before .before .loop .inv in
-    ((λ st ns h. turn-on (inv .0 st ns h) (h .known) (c .before .before .before .before .before .before .before .before .before .loop-test .taken) (c .before .before .before .before .before .before .fold-next .ensures) (c .if1 .left)), omega (arith, inv .1), omega (arith, inv .2))
+    ((λ st ns h. turn-on (inv .0 st ns h) (h .known) (c .before .before .before .before .before .before .before .before .before .loop-test .taken) (c .before .before .before .before .before .before .fold-next .ensures) (c .if1 .left)), c .before .before .before .before .before .before .fold-next .kept .1 .1 .1 .1 .1 .0 ∙ inv .1, c .before .before .before .before .before .before .fold-next .kept .1 .1 .1 .1 .1 .1 .0 ∙ inv .2)
 
 same-length-3 : tie.Need-same-length-3 Inv-loop μ-loop
-same-length-3 c = omega (arith, c .before .before .loop .inv .1)
+same-length-3 c = c .before .before .loop .inv .1 ∙ c .before .before .before .before .before .load-node .kept .1 .1 .0
 
 same-length-4 : tie.Need-same-length-4 Inv-loop μ-loop
-same-length-4 c = omega (arith, c .before .before .loop .inv .2)
+same-length-4 c = c .before .before .loop .inv .2
 
 returns-2 : tie.Need-returns-2 Inv-loop μ-loop
 returns-2 c =
