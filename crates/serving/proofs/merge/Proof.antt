@@ -1,7 +1,7 @@
 -- `merge` meets its contract: the refusals come in their order; two Buffers or two Memories are merged as the usages that were read, and
 -- of other tops the first stays.
 -- Assumes nothing.
-use mathlib.Core.Path.{_≡_}
+use mathlib.Core.Path.{_≡_, refl, _∙_}
 use native.Mathlib.Omega.{arith}
 use borrow.Author.Needs.{needs}
 use lib.ListN.{length, getD}
@@ -39,7 +39,7 @@ merged c =
 
 -- loading keeps the work area's length
 work-kept : (c : tie.After-load-both) → length (c .load-both .last .1 .1 .1 .1 .0) ≡ length (c .before .before .before .before .before .before .before .before .before .before .before .before .before .before .before .before .before .before .before .before .before .before .args .work .now)
-work-kept c = search needs
+work-kept c = c .load-both .kept .1 .1 .1 .1 .0
 
 top-requires : tie.Need-top-requires
 top-requires c κs = search needs
@@ -54,13 +54,13 @@ refuse-requires : tie.Need-refuse-requires
 refuse-requires c κs = search needs
 
 same-length : tie.Need-same-length
-same-length c = search needs
+same-length c = refl
 
 same-length-2 : tie.Need-same-length-2
-same-length-2 c = search needs
+same-length-2 c = c .before .before .before .before .before .before .before .before .accept .kept .1 .1 .0
 
 same-length-3 : tie.Need-same-length-3
-same-length-3 c = search needs
+same-length-3 c = c .before .before .refuse .kept .1 .0
 
 returns : tie.Need-returns
 returns c =
@@ -83,16 +83,16 @@ keep-requires : tie.Need-keep-requires
 keep-requires c κs = search needs
 
 same-length-4 : tie.Need-same-length-4
-same-length-4 c = search needs
+same-length-4 c = refl
 
 same-length-5 : tie.Need-same-length-5
-same-length-5 c = search needs
+same-length-5 c = c .before .before .before .before .before .before .before .before .before .before .before .before .before .before .accept .kept .1 .1 .0
 
 same-length-6 : tie.Need-same-length-6
-same-length-6 c = search needs
+same-length-6 c = c .before .before .before .before .keep .kept .1 .1 .0
 
 same-length-7 : tie.Need-same-length-7
-same-length-7 c = search needs
+same-length-7 c = c .before .before .before .before .keep .kept .1 .1 .1 .0
 
 returns-2 : tie.Need-returns-2
 returns-2 c =
@@ -110,16 +110,16 @@ keep-requires-2 : tie.Need-keep-requires-2
 keep-requires-2 c κs = search needs
 
 same-length-8 : tie.Need-same-length-8
-same-length-8 c = search needs
+same-length-8 c = refl
 
 same-length-9 : tie.Need-same-length-9
-same-length-9 c = search needs
+same-length-9 c = c .before .before .before .before .before .before .before .before .before .before .before .before .before .before .before .accept .kept .1 .1 .0
 
 same-length-10 : tie.Need-same-length-10
-same-length-10 c = search needs
+same-length-10 c = c .before .before .before .before .keep2 .kept .1 .1 .0
 
 same-length-11 : tie.Need-same-length-11
-same-length-11 c = search needs
+same-length-11 c = c .before .before .before .before .keep2 .kept .1 .1 .1 .0
 
 returns-3 : tie.Need-returns-3
 returns-3 c =
@@ -128,7 +128,7 @@ returns-3 c =
     merge-unlike (a .table .now) (length (a .work .now)) (a .first .now) (a .second .now) (good e) (first-bytes e) (second-bytes e) (c .before .before .before .before .before .before .before .if3 .taken) (a .output .now) (length (a .rep .now)) (c .before .before .before .before .keep2 .ensures)
 
 load-both-requires : tie.Need-load-both-requires
-load-both-requires c κs = both (good (c .before .before .before .before .before)) (merged (c .before) .pair) (search needs)
+load-both-requires c κs = both (good (c .before .before .before .before .before)) (merged (c .before) .pair) refl
 
 add-e : tie.Need-add-e
 add-e c = omega (arith, good (c .before .before .before .before .before .before .before .before .before) .few)
@@ -160,28 +160,28 @@ comes c =
     let m = merged (c .before .before .before .before .before .before .before .before .before) .pair in
     let e = c .before .before .before .before .before .before .before .before .before .before .before .before .before in
     let r = c .merge-mem in
-    reaches (good e) m (work-kept (c .before .before .before .before .before .before .before)) (c .before .before .before .before .before .before .before .load-both .ensures) merging (merging-few (good e) m) (r .last .1 .1 .0) (search needs) (r .result) (r .ensures .0)
+    reaches (good e) m (work-kept (c .before .before .before .before .before .before .before)) (c .before .before .before .before .before .before .before .load-both .ensures) merging (merging-few (good e) m) (r .last .1 .1 .0) (r .kept .1 .1 .0) (r .result) (r .ensures .0)
 
 finish-requires : tie.Need-finish-requires
 finish-requires c κs = record { result = answer (c .before .before .before .before .before .before .before); reached = comes (c .before .before .before .before .before .before .before) }
 
 same-length-12 : tie.Need-same-length-12
-same-length-12 c = search needs
+same-length-12 c = c .before .before .before .before .before .before .before .before .before .before .before .work2 .given .1 ∙ c .before .before .before .before .before .before .before .before .before .before .before .before .before .before .before .before .before .before .before .load-both .kept .1 .1 .1 .1 .0
 
 same-length-13 : tie.Need-same-length-13
-same-length-13 c = omega (arith, c .before .before .before .before .before .before .before .before .before .before .before .before .before .before .before .before .before .before .before .before .before .before .before .before .before .before .before .before .before .accept .kept)
+same-length-13 c = c .before .before .before .before .before .before .before .before .before .before .before .before .before .before .before .before .before .before .before .before .before .before .before .before .before .before .before .before .before .accept .kept .1 .1 .0
 
 same-length-14 : tie.Need-same-length-14
-same-length-14 c = search needs
+same-length-14 c = c .before .before .before .before .finish .kept .1 .1 .1 .0
 
 same-length-15 : tie.Need-same-length-15
-same-length-15 c = search needs
+same-length-15 c = c .before .before .before .before .finish .kept .1 .1 .1 .1 .0 ∙ c .before .before .before .before .before .before .before .before .before .before .before .before .merge-mem .kept .1 .1 .1 .1 .1 .0
 
 returns-4 : tie.Need-returns-4
 returns-4 c =
     let e = c .before .before .before .before .before .before .before .before .before .before .before .before .before .before .before .before .before .before .before .before .before .before .before .before .before in
     let a = e .before .before .before .before .before .before .before .before .before .before .before .before .before .before .before .before .args in
-    merge-gives (a .table .now) (length (a .work .now)) (a .first .now) (a .second .now) (good e) (first-bytes e) (second-bytes e) (merged (c .before .before .before .before .before .before .before .before .before .before .before .before .before .before .before .before .before .before .before .before .before)) (a .output .now) (length (a .rep .now)) (search needs) (comes (c .before .before .before .before .before .before .before .before .before .before .before .before)) (c .before .before .before .before .finish .ensures)
+    merge-gives (a .table .now) (length (a .work .now)) (a .first .now) (a .second .now) (good e) (first-bytes e) (second-bytes e) (merged (c .before .before .before .before .before .before .before .before .before .before .before .before .before .before .before .before .before .before .before .before .before)) (a .output .now) (length (a .rep .now)) (c .before .before .before .before .before .before .before .before .before .before .before .before .merge-mem .kept .1 .1 .1 .1 .1 .0) (comes (c .before .before .before .before .before .before .before .before .before .before .before .before)) (c .before .before .before .before .finish .ensures)
 
 pub merge-spec : {M : Type 1} → statement M
 merge-spec =

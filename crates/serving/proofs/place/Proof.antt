@@ -1,6 +1,6 @@
 -- `place` meets its contract: the refusals come in their order, and what is placed are the usages that were read.
 -- Assumes nothing.
-use mathlib.Core.Path.{_≡_}
+use mathlib.Core.Path.{_≡_, refl, _∙_}
 use native.Mathlib.Omega.{arith}
 use borrow.Author.Needs.{needs}
 use lib.ListN.{length}
@@ -35,7 +35,7 @@ pair c = let a = c .before .before .before .before .before .before .before .befo
 
 -- loading keeps the work area's length
 work-kept : (c : tie.After-load-both) → length (c .load-both .last .1 .1 .1 .1 .0) ≡ length (c .before .before .before .before .before .before .before .before .before .before .before .before .before .before .before .before .before .before .args .work .now)
-work-kept c = search needs
+work-kept c = c .load-both .kept .1 .1 .1 .1 .0
 
 memory-requires : tie.Need-memory-requires
 memory-requires c κs = search needs
@@ -50,13 +50,13 @@ refuse-requires : tie.Need-refuse-requires
 refuse-requires c κs = search needs
 
 same-length : tie.Need-same-length
-same-length c = search needs
+same-length c = refl
 
 same-length-2 : tie.Need-same-length-2
-same-length-2 c = search needs
+same-length-2 c = c .before .before .before .before .before .before .before .before .accept .kept .1 .1 .0
 
 same-length-3 : tie.Need-same-length-3
-same-length-3 c = search needs
+same-length-3 c = c .before .before .refuse .kept .1 .0
 
 returns : tie.Need-returns
 returns c =
@@ -64,7 +64,7 @@ returns c =
     place-refused (a .table .now) (length (a .work .now)) (a .first .now) (a .offset) (a .second .now) (met (c .before .before .before .before .before .before .before .before)) (omega (arith, c .before .before .before .before .if1 .taken)) (a .output .now) (length (a .rep .now)) (c .before .before .refuse .ensures)
 
 load-both-requires : tie.Need-load-both-requires
-load-both-requires c κs = both (good (c .before)) (pair (c .before)) (search needs)
+load-both-requires c κs = both (good (c .before)) (pair (c .before)) refl
 
 add-e : tie.Need-add-e
 add-e c = omega (arith, good (c .before .before .before .before .before) .few)
@@ -96,28 +96,28 @@ comes c =
     let e = c .before .before .before .before .before .before .before .before .before in
     let r = c .merge-mem-at in
     let offset = e .before .before .before .before .before .before .before .before .before .before .before .before .before .before .before .before .args .offset in
-    reaches (good e) (pair e) (work-kept (c .before .before .before .before .before .before .before)) (c .before .before .before .before .before .before .before .load-both .ensures) (placing offset) (placing-few (good e) (pair e) offset) (r .last .1 .1 .0) (search needs) (r .result) (r .ensures .0)
+    reaches (good e) (pair e) (work-kept (c .before .before .before .before .before .before .before)) (c .before .before .before .before .before .before .before .load-both .ensures) (placing offset) (placing-few (good e) (pair e) offset) (r .last .1 .1 .0) (r .kept .1 .1 .0) (r .result) (r .ensures .0)
 
 finish-requires : tie.Need-finish-requires
 finish-requires c κs = record { result = answer (c .before .before .before .before .before .before .before); reached = comes (c .before .before .before .before .before .before .before) }
 
 same-length-4 : tie.Need-same-length-4
-same-length-4 c = search needs
+same-length-4 c = c .before .before .before .before .before .before .before .before .before .before .before .work2 .given .1 ∙ c .before .before .before .before .before .before .before .before .before .before .before .before .before .before .before .before .before .before .before .load-both .kept .1 .1 .1 .1 .0
 
 same-length-5 : tie.Need-same-length-5
-same-length-5 c = omega (arith, c .before .before .before .before .before .before .before .before .before .before .before .before .before .before .before .before .before .before .before .before .before .before .before .before .before .accept .kept)
+same-length-5 c = c .before .before .before .before .before .before .before .before .before .before .before .before .before .before .before .before .before .before .before .before .before .before .before .before .before .accept .kept .1 .1 .0
 
 same-length-6 : tie.Need-same-length-6
-same-length-6 c = search needs
+same-length-6 c = c .before .before .before .before .finish .kept .1 .1 .1 .0
 
 same-length-7 : tie.Need-same-length-7
-same-length-7 c = search needs
+same-length-7 c = c .before .before .before .before .finish .kept .1 .1 .1 .1 .0 ∙ c .before .before .before .before .before .before .before .before .before .before .before .before .merge-mem-at .kept .1 .1 .1 .1 .1 .1 .0
 
 returns-2 : tie.Need-returns-2
 returns-2 c =
     let a = c .before .before .before .before .before .before .before .before .before .before .before .before .before .before .before .before .before .before .before .before .before .before .before .before .before .before .before .before .before .before .before .before .before .before .before .before .before .args in
     let e = c .before .before .before .before .before .before .before .before .before .before .before .before .before .before .before .before .before .before .before .before .before in
-    place-gives (a .table .now) (length (a .work .now)) (a .first .now) (a .offset) (a .second .now) (good e) (first-bytes e) (second-bytes e) (a .output .now) (length (a .rep .now)) (search needs) (comes (c .before .before .before .before .before .before .before .before .before .before .before .before)) (c .before .before .before .before .finish .ensures)
+    place-gives (a .table .now) (length (a .work .now)) (a .first .now) (a .offset) (a .second .now) (good e) (first-bytes e) (second-bytes e) (a .output .now) (length (a .rep .now)) (c .before .before .before .before .before .before .before .before .before .before .before .before .merge-mem-at .kept .1 .1 .1 .1 .1 .1 .0) (comes (c .before .before .before .before .before .before .before .before .before .before .before .before)) (c .before .before .before .before .finish .ensures)
 
 pub place-spec : {M : Type 1} → statement M
 place-spec =

@@ -26,7 +26,7 @@ refusal-requires-2 : tie.Need-refusal-requires-2
 refusal-requires-2 c κs = search needs
 
 same-length : tie.Need-same-length
-same-length c = search needs
+same-length c = c .before .before .before .before .before .accept .kept .1 .0
 
 returns-2 : tie.Need-returns-2
 returns-2 c =
@@ -51,7 +51,7 @@ refusal-requires-3 : tie.Need-refusal-requires-3
 refusal-requires-3 c κs = search needs
 
 same-length-2 : tie.Need-same-length-2
-same-length-2 c = search needs
+same-length-2 c = c .before .before .before .before .before .before .before .before .accept .kept .1 .0
 
 returns-3 : tie.Need-returns-3
 returns-3 c =
@@ -65,7 +65,7 @@ refusal-requires-4 : tie.Need-refusal-requires-4
 refusal-requires-4 c κs = search needs
 
 same-length-3 : tie.Need-same-length-3
-same-length-3 c = search needs
+same-length-3 c = c .before .before .before .before .before .before .before .before .before .before .accept .kept .1 .0
 
 returns-4 : tie.Need-returns-4
 returns-4 c = rw (sound-unknown (begun (c .before .before .before .before .before .before)) (memory (c .before .before)) (c .before .if3 .taken)) (c .refusal4 .ensures)
@@ -74,7 +74,7 @@ refusal-requires-5 : tie.Need-refusal-requires-5
 refusal-requires-5 c κs = search needs
 
 same-length-4 : tie.Need-same-length-4
-same-length-4 c = search needs
+same-length-4 c = c .before .before .before .before .before .before .before .before .before .before .before .accept .kept .1 .0
 
 returns-5 : tie.Need-returns-5
 returns-5 c = rw (sound-many (begun (c .before .before .before .before .before .before .before)) (memory (c .before .before .before)) (c .before .before .if3 .left) (c .before .if4 .taken)) (c .refusal5 .ensures)
@@ -89,10 +89,10 @@ said-requires : tie.Need-said-requires
 said-requires c κs = search needs
 
 same-length-5 : tie.Need-same-length-5
-same-length-5 c = search needs
+same-length-5 c = c .before .before .before .before .before .load .kept .1 .1 .1 .0
 
 same-length-6 : tie.Need-same-length-6
-same-length-6 c = search needs
+same-length-6 c = c .before .before .before .before .before .before .before .before .before .before .before .before .before .before .before .before .before .accept .kept .1 .0
 
 returns-6 : tie.Need-returns-6
 returns-6 c =

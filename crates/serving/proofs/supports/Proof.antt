@@ -1,5 +1,6 @@
 -- `supports` meets its contract: the refusals come in their order, and what is asked about is the usage that was read.
 -- Assumes nothing.
+use mathlib.Core.Path.{_∙_}
 use native.Mathlib.Omega.{arith}
 use borrow.Author.Needs.{needs}
 use borrow.Author.Tests.{not-true, not-false}
@@ -26,7 +27,7 @@ refusal-requires-2 : tie.Need-refusal-requires-2
 refusal-requires-2 c κs = search needs
 
 same-length : tie.Need-same-length
-same-length c = search needs
+same-length c = c .before .before .before .before .before .accept .kept .1 .0
 
 returns-2 : tie.Need-returns-2
 returns-2 c =
@@ -51,7 +52,7 @@ refusal-requires-3 : tie.Need-refusal-requires-3
 refusal-requires-3 c κs = search needs
 
 same-length-2 : tie.Need-same-length-2
-same-length-2 c = search needs
+same-length-2 c = c .before .before .before .before .before .before .before .before .accept .kept .1 .0
 
 returns-3 : tie.Need-returns-3
 returns-3 c =
@@ -65,7 +66,7 @@ refusal-requires-4 : tie.Need-refusal-requires-4
 refusal-requires-4 c κs = search needs
 
 same-length-3 : tie.Need-same-length-3
-same-length-3 c = search needs
+same-length-3 c = c .before .before .before .before .before .before .before .before .before .before .before .accept .kept .1 .0
 
 returns-4 : tie.Need-returns-4
 returns-4 c =
@@ -76,7 +77,7 @@ refusal-requires-5 : tie.Need-refusal-requires-5
 refusal-requires-5 c κs = search needs
 
 same-length-4 : tie.Need-same-length-4
-same-length-4 c = search needs
+same-length-4 c = c .before .before .before .before .before .before .before .before .before .before .before .before .accept .kept .1 .0
 
 returns-5 : tie.Need-returns-5
 returns-5 c =
@@ -90,7 +91,7 @@ refusal-requires-6 : tie.Need-refusal-requires-6
 refusal-requires-6 c κs = search needs
 
 same-length-5 : tie.Need-same-length-5
-same-length-5 c = search needs
+same-length-5 c = c .before .before .before .before .before .before .before .before .before .before .before .before .before .before .before .accept .kept .1 .0
 
 returns-6 : tie.Need-returns-6
 returns-6 c =
@@ -102,7 +103,7 @@ refusal-requires-7 : tie.Need-refusal-requires-7
 refusal-requires-7 c κs = search needs
 
 same-length-6 : tie.Need-same-length-6
-same-length-6 c = search needs
+same-length-6 c = c .before .before .before .before .before .before .before .before .before .before .before .before .before .before .before .before .accept .kept .1 .0
 
 returns-7 : tie.Need-returns-7
 returns-7 c =
@@ -122,10 +123,10 @@ said-requires : tie.Need-said-requires
 said-requires c κs = search needs
 
 same-length-7 : tie.Need-same-length-7
-same-length-7 c = search needs
+same-length-7 c = c .before .before .before .supports-usage-at-offset .kept .1 .1 .1 .1 .0 ∙ c .before .before .before .before .before .before .before .before .load .kept .1 .1 .1 .0
 
 same-length-8 : tie.Need-same-length-8
-same-length-8 c = search needs
+same-length-8 c = c .before .before .before .before .before .before .before .before .before .before .before .before .before .before .before .before .before .before .before .before .before .before .before .before .before .accept .kept .1 .0
 
 returns-8 : tie.Need-returns-8
 returns-8 c =
