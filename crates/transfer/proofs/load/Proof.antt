@@ -1,5 +1,6 @@
 -- `transfer::load` meets its contract: all nodes are loaded, and then counted.
 -- Assumes nothing.
+use mathlib.Core.Path.{_∙_}
 use borrow.Author.Needs.{needs}
 use Rattle.transfer.proofs.Loading.{uncounted, loaded}
 use Rattle.transfer.proofs.load.Statement.{statement}
@@ -12,7 +13,7 @@ count-nodes-requires : tie.Need-count-nodes-requires
 count-nodes-requires c κs = search (uncounted, needs)
 
 same-length : tie.Need-same-length
-same-length c = search needs
+same-length c = c .before .before .count-nodes .kept .0 ∙ c .before .before .before .before .before .before .load-nodes .kept .1 .1 .1 .0
 
 returns : tie.Need-returns
 returns c = search (loaded, needs)

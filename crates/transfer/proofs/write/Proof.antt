@@ -40,7 +40,7 @@ write-own-requires c κs =
     let pre = c .before .before .before .before .before .before .pre in
     let inv = c .before .before .loop .inv in
     let P = pre .standing in
-    let here = this-turn (inv .0) P (omega arith) in
+    let here = this-turn (inv .0) P (c .before .loop-test .taken) in
     record { standing = standing here (inv .3) (omega arith); width = inv .1; room = omega (arith, here .fits, pre .room, inv .0 .of (P .usage) (P .offset) (P .stands) .done .behind, inv .5) }
 
 front-behind-requires : tie.Need-front-behind-requires Inv-loop μ-loop
@@ -56,7 +56,7 @@ loop-again : tie.Need-loop-again Inv-loop μ-loop
 loop-again c =
     let inv = c .before .before .before .before .before .before .loop .inv in
     let written = c .before .before .before .write-own in (
-      writing-more (inv .0) (omega arith) (c .front-behind .ensures) (λ text v o at done. put-more done (written .ensures .of v o at)),
+      writing-more (inv .0) (c .before .before .before .before .before .loop-test .taken) (c .front-behind .ensures) (λ text v o at done. put-more done (written .ensures .of v o at)),
       rw (c .front-behind .ensures) (front-width _),
       omega arith,
       inv .3,
@@ -68,7 +68,7 @@ same-length : tie.Need-same-length Inv-loop μ-loop
 same-length c = c .before .loop .inv .5
 
 returns : tie.Need-returns Inv-loop μ-loop
-returns c = record { of = writing-done (c .before .loop .inv .0) (omega arith) }
+returns c = record { of = writing-done (c .before .loop .inv .0) (c .loop-test .left) }
 
 pub write-spec : {M : Type 1} → statement M
 write-spec =

@@ -1,5 +1,6 @@
 -- `transfer::write_own` meets its contract: the parts are stored one behind the other.
 -- Assumes nothing.
+use mathlib.Core.Path.{_∙_}
 use native.Mathlib.Omega.{arith}
 use borrow.Author.Needs.{needs}
 use Rattle.transfer.proofs.OwnStored.{own-room, own-stored}
@@ -46,7 +47,7 @@ add-result-3 : tie.Need-add-result-3
 add-result-3 c = omega (arith, own-room (c .before .before .before .before .before .before .before .before .before .before .before .before .before .before .before .pre) (c .before .before .before .before .before .before .before .before .before .before .before .before .argument-width .ensures) .1, c .before .before .before .before .before .before .before .before .before .before .before .before .before .before .before)
 
 same-length : tie.Need-same-length
-same-length c = search needs
+same-length c = c .before .before .put-head .kept .0 ∙ c .before .before .before .before .before .before .put-number .kept .0
 
 returns : tie.Need-returns
 returns c =

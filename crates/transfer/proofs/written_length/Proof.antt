@@ -12,6 +12,7 @@ use Rattle.records.specs.Records.{commandIn}
 use Rattle.records.specs.Usages.{At}
 use Rattle.records.proofs.Usages.{root-of}
 use Rattle.transfer.specs.Nodes.{Width, own}
+use Rattle.transfer.specs.Writing.{Standing}
 use Rattle.transfer.proofs.Roots.{record-inside, command-byte, width-read, count-inside}
 use Rattle.transfer.proofs.Widths.{own-length, front-width}
 use Rattle.transfer.proofs.Writing.{Writing, node-standing, writing-none, writing-more, writing-done}
@@ -48,20 +49,18 @@ loop-holds c =
 add-n : tie.Need-add-n Inv-loop μ-loop
 add-n c = search needs
 
+-- the node of this turn
+node : (c : tie.In-loop Inv-loop μ-loop) → Standing (c .before .before .before .before .args .s .now) (c .before .loop .i)
+node c = node-standing (c .before .loop .inv .0) (c .before .before .before .before .pre) (c .loop-test .taken) (c .before .loop .inv .3) (omega arith)
+
 argument-width-requires : tie.Need-argument-width-requires Inv-loop μ-loop
-argument-width-requires c κs =
-    let node = node-standing (c .before .loop .inv .0) (c .before .before .before .before .pre) (omega arith) (c .before .loop .inv .3) (omega arith) in
-    (record-inside node, command-byte node)
+argument-width-requires c κs = (record-inside (node c), command-byte (node c))
 
 add-n-2 : tie.Need-add-n-2 Inv-loop μ-loop
-add-n-2 c =
-    let node = node-standing (c .before .before .loop .inv .0) (c .before .before .before .before .before .pre) (omega arith) (c .before .before .loop .inv .3) (omega arith) in
-    omega (arith, width-read node (c .argument-width .ensures))
+add-n-2 c = omega (arith, width-read (node (c .before)) (c .argument-width .ensures))
 
 add-n-3 : tie.Need-add-n-3 Inv-loop μ-loop
-add-n-3 c =
-    let node = node-standing (c .before .before .loop .inv .0) (c .before .before .before .before .before .pre) (omega arith) (c .before .before .loop .inv .3) (omega arith) in
-    omega (arith, width-read node (c .argument-width .ensures))
+add-n-3 c = omega (arith, width-read (node (c .before)) (c .argument-width .ensures))
 
 front-behind-requires : tie.Need-front-behind-requires Inv-loop μ-loop
 front-behind-requires c κs = search needs
@@ -76,11 +75,10 @@ loop-again : tie.Need-loop-again Inv-loop μ-loop
 loop-again c =
     let inv = c .before .before .before .loop .inv in
     let width = c .before .argument-width .ensures in
-    let node = node-standing (inv .0) (c .before .before .before .before .before .before .pre) (omega arith) (inv .3) (omega arith) in
-    (writing-more (inv .0) (omega arith) (c .front-behind .ensures) (longer _ _ _ _ width), rw (c .front-behind .ensures) (front-width _), omega arith, inv .3, inv .4, omega (arith, width-read node width))
+    (writing-more (inv .0) (c .before .before .loop-test .taken) (c .front-behind .ensures) (longer _ _ _ _ width), rw (c .front-behind .ensures) (front-width _), omega arith, inv .3, inv .4, omega (arith, width-read (node (c .before .before)) width))
 
 returns : tie.Need-returns Inv-loop μ-loop
-returns c = record { of = writing-done (c .before .loop .inv .0) (omega arith) }
+returns c = record { of = writing-done (c .before .loop .inv .0) (c .loop-test .left) }
 
 pub written-length-spec : {M : Type 1} → statement M
 written-length-spec =
