@@ -55,16 +55,7 @@ pub fn merge_mem_at(
             let x = st.x * 32;
             let e = (st.x + st.n + st.m) * 32;
             if st.todo == 3 {
-                let r = merge_mem(
-                    table,
-                    places,
-                    &mut s[x..e],
-                    st.n,
-                    st.m,
-                    rep,
-                    st.at,
-                    st.finger,
-                );
+                let r = merge_mem(table, places, &mut s[x..e], st.n, st.m, rep, st.at, 0);
                 st = settle(st, r);
             } else {
                 let r = merge_mem_at(

@@ -165,7 +165,7 @@ merge-mem-at-merge-mem-requires t c κs =
     let start : _ = turn .before .before .before .before .before .before .before .before .before .before .before .before in
     let L = turn .loop .inv in
     let pair : 2 ≤ turn .loop .st .todo = omega (arith, tested .if1 .taken, chosen .if2 .left) in
-    (omega (arith, L .numbers .less, L .numbers .fits, L .numbers .high, tested .if1 .taken, start .pre .0), (pair-ready L pair refl refl refl, (pair-near L pair refl refl refl, pair-finger L pair refl refl refl)))
+    (omega (arith, L .numbers .less, L .numbers .fits, L .numbers .high, tested .if1 .taken, start .pre .0), (pair-ready L pair refl refl refl, (pair-near L pair refl refl refl, no-finger _ _ _)))
 
 merge-mem-at-settle-requires : (t : ℕ) → merge-mem-at-lts.Need-settle-requires (merge-mem-at-claims t) (merge-mem-at-at t) merge-mem-at′.Post merge-mem-at-Inv-loop merge-mem-at-μ-loop
 merge-mem-at-settle-requires t c κs = search needs
