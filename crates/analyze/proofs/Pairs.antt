@@ -42,18 +42,17 @@ within-bounded {r} {w} {p} (Within.answer u w′ p′ e b) q =
     let ep : p′ ≡ p = cc in
     rw (← eu, ← ew, ← ep) b
 
+place-gives : (st : Setting) (k d : ℕ) (t u : Usage) {r : Usage} {w : List ℕ} {p : ℕ} → d ≤ max32 → Storable k t → Storable k u → place st t d u ≡ done r w p → Gives k t u r w p
+place-gives st k d t u le ht hu q =
+    let b = within-bounded (place-within st t d u) q in
+    record { fits = place-storable st k t d u ht hu le q; few-nodes = b .few-nodes; paid = b .paid; short = b .short-report }
+
 act-gives : (st : Setting) (k todo d : ℕ) (t u : Usage) {r : Usage} {w : List ℕ} {p : ℕ} → d ≤ max32 → Storable k t → Storable k u
     → act st todo d t u ≡ done r w p → Gives k t u r w p
 unfolding act
-act-gives st k zero d t u le ht hu q =
-    let b = within-bounded (place-within st t d u) q in
-    record { fits = place-storable st k t d u ht hu le q; few-nodes = b .few-nodes; paid = b .paid; short = b .short-report }
-act-gives st k (suc zero) d t u le ht hu q =
-    let b = within-bounded (place-within st t d u) q in
-    record { fits = place-storable st k t d u ht hu le q; few-nodes = b .few-nodes; paid = b .paid; short = b .short-report }
-act-gives st k (suc (suc zero)) d t u le ht hu q =
-    let b = within-bounded (place-within st t d u) q in
-    record { fits = place-storable st k t d u ht hu le q; few-nodes = b .few-nodes; paid = b .paid; short = b .short-report }
+act-gives st k zero d t u le ht hu q = place-gives st k d t u le ht hu q
+act-gives st k (suc zero) d t u le ht hu q = place-gives st k d t u le ht hu q
+act-gives st k (suc (suc zero)) d t u le ht hu q = place-gives st k d t u le ht hu q
 act-gives st k (suc (suc (suc n))) d t u le ht hu q =
     let b = within-bounded (mergeMem-within st t u) q in
     record { fits = mergeMem-storable st k t u ht hu q; few-nodes = b .few-nodes; paid = b .paid; short = b .short-report }

@@ -54,6 +54,7 @@ pub fn merge_mem_at(
         } else {
             let x = st.x * 32;
             let e = (st.x + st.n + st.m) * 32;
+            // Only rule 2 hands a finger on, and it does not merge.
             if st.todo == 3 {
                 let r = merge_mem(table, places, &mut s[x..e], st.n, st.m, rep, st.at, 0);
                 st = settle(st, r);
