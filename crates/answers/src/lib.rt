@@ -68,7 +68,7 @@ pub fn said(yes: bool) -> Answer
 pub fn refuse(number: u32, rep: &mut [u8]) -> Answer
     ensures { λ r. ⌜ (answerOf r ≡ refusal number) × (now (rep .exit) ≡ replicate (length (now (rep .entry))) 0) ⌝ }
 {
-    report::zero(rep, 0);
+    report::zero(rep, 0); // the whole of it
     refusal(number)
 }
 
