@@ -1,12 +1,14 @@
 #!/usr/bin/env bash
-# Everything that must hold of this repository. The last line is the gate's: 'N passed, 0 failed'.
+# Everything that must hold of this repository. The last line is the proofs': 'N passed, 0 failed'.
 set -euo pipefail
 cd "$(dirname "$0")"
 
-if ! command -v rt >/dev/null; then
-  echo "test.sh: the Rattle toolchain's command rt is not on the PATH" >&2
-  exit 2
-fi
+for tool in rt cargo cc; do
+  if ! command -v "$tool" >/dev/null; then
+    echo "test.sh: $tool is not on the PATH (rt is the Rattle toolchain's; the bindings and the comparison need cargo and a C compiler)" >&2
+    exit 2
+  fi
+done
 
 # The definitions are what a reader must believe: they stay short enough to be read in an hour.
 lines=$(cat crates/definitions/specs/*.antt | wc -l)
@@ -18,13 +20,17 @@ fi
 
 rt fmt --check
 
-if ! command -v cargo >/dev/null; then
-  echo "test.sh: cargo is not on the PATH; the bindings and the comparison with the Rust need it" >&2
-  exit 2
-fi
+# From nothing: every proof, every must-fail edit, every program. All that follows uses the library that is proved here. `rt` starts so
+# many checks at a time and waits for the slowest of them, so there are more than cores.
+said=$(mktemp)
+trap 'rm -f "$said"' EXIT
+RT_JOBS=${RT_JOBS:-4} rt ci | tee "$said"
+verdict=$(tail -n 1 "$said")
 
-# The library as others link it: from C and from Rust. Proved first by `rt check`, which uses all cores.
-rt check exports
+# Every edit was refused because a fact fails, not because the proof no longer fits the code.
+bash must-fail.sh
+
+# The library as others link it: from C and from Rust.
 rt staticlib exports
 bash bindings/c/example.sh
 cargo test --quiet --manifest-path bindings/rust/Cargo.toml
@@ -43,5 +49,4 @@ else
   echo "test.sh: NOT COMPARED WITH THE RUST: its source is not there; differential/README.md says where it is looked for" >&2
 fi
 
-# From nothing: every proof, every must-fail edit, every program.
-rt ci
+echo "$verdict"
