@@ -4,12 +4,19 @@
  * A slice is a pointer and a length in bytes. A slice that is written (work, output, report, answer)
  * must not overlap any other slice of the call. No pointer may be null, not even with a length of 0.
  * Bytes need no alignment. The library keeps no pointer, allocates nothing and has no state: calls
- * with slices of their own may run at the same time. Merging and asking types for support recurse:
- * 1 MiB of stack is enough for every call, and the deepest inputs take nearly all of it.
+ * with slices of their own may run at the same time.
  *
- * Every input is answered. What breaks the format is refused by a number and changes nothing but
- * the report buffer, which is zeroed. docs/SPECIFICATION.md has the formats and the rules; all
- * numbers in streams are little-endian.
+ * Every input is answered. What breaks the format is refused by a number; then no output changes,
+ * and a report buffer, where the call has one, is zeroed. docs/SPECIFICATION.md has the formats and
+ * the rules; all numbers in streams are little-endian.
+ *
+ * Stack: merging and asking types for support recurse. 1 MiB was enough for the deepest calls that
+ * are known, which take nearly all of it; this is measured, not proved.
+ *
+ * Time: every call ends, and the placings of a merge are bounded, but not the questions that its
+ * layout test asks of types. A table with dynamic elements inside of dynamic elements can make them
+ * double with each level (@STRIDESH@). Run a call on tables or
+ * usages from strangers where it can be stopped; docs/PERFORMANCE.md says what was found to grow.
  *
  *     cc program.c -I bindings/c -L target/staticlib -lexports
  */
@@ -100,7 +107,7 @@ uint32_t qptr_receiver(const uint8_t *first, size_t first_length,
                        const uint8_t *second, size_t second_length);
 
 /* Whether a type supports the usage of a Memory stream at an offset. Answers are remembered on the
- * way, so that small questions are quick; docs/DIFFERENCES.md says where that does not help. */
+ * way, so that small questions are quick; see "Time" above for where that does not help. */
 void qptr_supports(const uint8_t *table, size_t table_length, uint8_t *work, size_t work_length,
                    uint32_t type, uint32_t offset, const uint8_t *stream, size_t stream_length,
                    uint64_t answer[QPTR_ANSWER_LENGTH]);
@@ -126,7 +133,8 @@ void qptr_merge(const uint8_t *table, size_t table_length, uint8_t *work, size_t
                 uint8_t *output, size_t output_length, uint8_t *report, size_t report_length,
                 uint64_t answer[QPTR_ANSWER_LENGTH]);
 
-/* Folds the nodes of a list. A list of sound usages is never refused with 8 or 9. */
+/* Folds the nodes of a list. A list of sound usages is never refused with 8 or 9, and the usage
+ * written is then sound, as large as the largest, and of at most as many nodes as the list. */
 void qptr_fold(const uint8_t *table, size_t table_length, uint8_t *work, size_t work_length,
                const uint8_t *list, size_t list_length,
                uint8_t *output, size_t output_length, uint8_t *report, size_t report_length,
