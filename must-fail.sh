@@ -5,8 +5,10 @@
 set -euo pipefail
 cd "$(dirname "$0")"
 
-# What a message says where the proof does not fit the code.
-unfit='can be named from here|has no field|is not in scope|too many arguments|too few arguments|expected a function|was not admitted'
+# What a message says where the proof does not fit the code: a name or a field is missing, or what is known at one place is looked for
+# at another (`Lts` has a record for each place).
+unfit='can be named from here|has no field|too many arguments|too few arguments|was not admitted'
+unfit+='|where one has `[^` ]*Lts\.(Start|After|Else|Then)[A-Za-z0-9-]*`'
 
 # The first error of a log, with the lines that belong to it; of a function that has no proof of its own, the fact that is not proved.
 first_error() {
@@ -20,6 +22,7 @@ shows_nothing() { [ -z "$1" ] || grep -qE "$unfit" <<<"$1"; }
 
 # The check can fail: it tells an edit that shows nothing from one that shows something.
 if ! shows_nothing $'Proof.antt:1:1: error: `returns`: record `After`\n  has no field `if1`' || ! shows_nothing '' ||
+  ! shows_nothing 'Proof.antt:1:1: error: `same-length`: the two types differ only where one has `answers.finish.Lts.Else1`' ||
   shows_nothing 'Proof.antt:1:1: error: `returns`: `omega`: the goal does not follow from what it read'; then
   echo "must-fail.sh: its own test failed" >&2
   exit 2
