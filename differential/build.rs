@@ -1,11 +1,15 @@
-//! Slices the reference out of the published files, unchanged, into `OUT_DIR`.
+//! Slices the reference out of the published files, unchanged, into `OUT_DIR`; with the feature
+//! `library`, links what shows the part of `receiver`.
 //!
 //! Only the items named below are taken. Each is found by its start line, with the attributes and
 //! comments that stand directly above it, and ends at its closing brace. The published files are
 //! formatted by rustfmt, so the brace that closes a top-level item stands alone in the first column.
 
+#[path = "../bindings/rust/archive.rs"]
+mod archive;
+
+use archive::fail;
 use std::path::{Path, PathBuf};
-use std::process::exit;
 use std::{env, fs};
 
 /// For each published file, the start lines of the items that are taken from it.
@@ -63,6 +67,11 @@ fn main() {
         let sliced: String = markers.iter().map(|marker| slice(&text, marker, file)).collect();
         fs::write(out.join(file), sliced).expect("OUT_DIR can be written");
     }
+    if cfg!(feature = "library") {
+        archive::link("receiver_part", "..");
+        // What it hands to C's `pwrite` goes to `__wrap_pwrite` of `src/part.rs`.
+        println!("cargo::rustc-link-arg=-Wl,--wrap=pwrite");
+    }
 }
 
 /// Where the published `src/qptr` lies: under `$SPIRT_SRC`, or beside the repository.
@@ -79,13 +88,6 @@ fn missing(path: &Path) -> ! {
         "the reference source is missing ({} cannot be read): get Rust-GPU/spirt at commit e8757adba8 and set SPIRT_SRC to its folder",
         path.display()
     ))
-}
-
-/// One plain line, and the build fails: cargo sees to that, and shows more than the line where the
-/// script itself fails.
-fn fail(line: &str) -> ! {
-    println!("cargo::error={line}");
-    exit(0)
 }
 
 /// The item that starts with the line `marker`, with what stands directly above it.

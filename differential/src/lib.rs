@@ -8,6 +8,8 @@ pub mod generate;
 pub mod library;
 pub mod notation;
 #[cfg(feature = "library")]
+pub mod part;
+#[cfg(feature = "library")]
 pub mod plot;
 pub mod power;
 pub mod questions;

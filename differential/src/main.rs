@@ -12,7 +12,7 @@ use differential::rows::{Row, bench, directed, limits, printed_example};
 use differential::side::{CallKind, Side};
 use differential::theorems::{Theorems, small_calls};
 #[cfg(feature = "library")]
-use differential::{bench as port, library::Library, plot, stack};
+use differential::{bench as port, library::Library, part::Part, plot, stack};
 use std::path::Path;
 use std::process::ExitCode;
 use std::time::{Duration, Instant};
@@ -21,7 +21,7 @@ use std::{env, fs, thread};
 const USAGE: &str = "\
 rows                             all worked rows: document 01, reference and reading agree
 compare [options]                generated calls to two sides
-  --sides reference,reading      two of reference, reading, library
+  --sides reference,reading      two of reference, reading, library, part
   --calls supports,place,..      which calls (default: all)
   --sources sound,unsound,..     which inputs (default: sound,unsound,large,deep,damaged)
   --count 10000                  calls in each category (fewer large and deep ones)
@@ -198,6 +198,17 @@ impl Options {
     fn kinds(&self) -> Vec<CallKind> {
         self.calls.clone().unwrap_or_else(|| CallKind::ALL.to_vec())
     }
+
+    /// The same for the part that receiver hands back, if the library is asked for receiver.
+    fn of_part(&self) -> Option<Options> {
+        let is_library = |side: &dyn Side| side.name() == "library";
+        let receiver = CallKind::Receiver;
+        let asked = self.kinds().contains(&receiver) && self.sides.into_iter().any(is_library);
+        let part = side("part").ok().filter(|_| asked)?;
+        let sides = self.sides.map(|side| if is_library(side) { part } else { side });
+        let (calls, sources) = (Some(vec![receiver]), self.sources.clone());
+        Some(Options { sides, calls, sources, ..*self })
+    }
 }
 
 fn side(name: &str) -> Result<&'static dyn Side, String> {
@@ -206,8 +217,10 @@ fn side(name: &str) -> Result<&'static dyn Side, String> {
         "reading" => Ok(&READING),
         #[cfg(feature = "library")]
         "library" => Ok(&Library),
+        #[cfg(feature = "library")]
+        "part" => Ok(&Part),
         #[cfg(not(feature = "library"))]
-        "library" => Err(NOT_LINKED.into()),
+        "library" | "part" => Err(NOT_LINKED.into()),
         _ => Err(format!("no side is named {name}")),
     }
 }
@@ -236,6 +249,9 @@ fn rows() -> Ended {
 }
 
 fn compare_sides(options: &Options) -> Ended {
+    if let Some(options) = options.of_part() {
+        println!("{}", compare_sides(&options)?);
+    }
     let start = Instant::now();
     let mut calls = 0;
     for kind in options.kinds() {
