@@ -32,6 +32,7 @@ bash must-fail.sh
 
 # The library as others link it: from C and from Rust.
 rt staticlib exports
+rt staticlib receiver_part
 bash bindings/c/example.sh
 cargo test --quiet --manifest-path bindings/rust/Cargo.toml
 

@@ -36,6 +36,7 @@ power                            each deliberate fault must be noticed
 bench                            how long the port takes, beside the reference (needs the library)
 plot PATH                        how cost grows with nodes, as a picture (needs the library)
 questions                        the layout test's questions, ours and the reference's (needs the library)
+slow                             how long it takes where no memory helps (needs the library)
 plot-questions PATH              how they grow with the input, as a picture
 worst [--seconds 600] [--seed 1] a search for inputs on which the layout test asks most
 stack                            how much stack the deepest calls need (needs the library)
@@ -86,8 +87,10 @@ fn run() -> Ended {
         ["stack-of", name, kib] => stack::run(name, kib),
         #[cfg(feature = "library")]
         ["questions"] => questions_table(),
+        #[cfg(feature = "library")]
+        ["slow"] => slow_table(),
         #[cfg(not(feature = "library"))]
-        ["bench" | "stack" | "plot" | "questions", ..] => Err(NOT_LINKED.into()),
+        ["bench" | "stack" | "plot" | "questions" | "slow", ..] => Err(NOT_LINKED.into()),
         ["worst", options @ ..] => search_worst(options),
         ["plot-questions", path] => plot_questions(path),
         ["ci"] => ci(RECORDED),
@@ -124,6 +127,12 @@ fn plot_growth(path: &str) -> Ended {
 fn questions_table() -> Ended {
     println!("{}", differential::questions::figures::table()?);
     Ok("questions: none of the four shapes takes more than it may".into())
+}
+
+#[cfg(feature = "library")]
+fn slow_table() -> Ended {
+    println!("{}", differential::questions::figures::slow());
+    Ok("slow: one call each".into())
 }
 
 fn plot_questions(path: &str) -> Ended {

@@ -3,7 +3,7 @@
 
 use super::plain::{Counted, plain};
 use super::port::{Asked, ours};
-use super::shapes::{Question, arrays, layers, merged, wrappers};
+use super::shapes::{Question, arrays, layers, merged, strides, wrappers};
 use super::worst_found;
 use crate::library::{Library, time};
 use crate::reading::calls::WORK_AREA;
@@ -74,6 +74,17 @@ pub fn table() -> Result<String, String> {
         lines.push(row.line()?);
     }
     Ok(lines.join("\n"))
+}
+
+/// How long the layout test takes where no memory helps: dynamic elements inside of dynamic elements, one call each.
+pub fn slow() -> String {
+    let mut lines = vec!["| nodes | types | our call |".to_owned(), "|---|---|---|".to_owned()];
+    for k in [19, 25, 27, 29] {
+        let row = Row::asked("strides that differ", String::new(), strides(k, k), ANY);
+        let (nodes, types) = (row.question.nodes(), row.question.types());
+        lines.push(format!("| {nodes} | {types} | {:.2?} |", time(&row.call(), 1)));
+    }
+    lines.join("\n")
 }
 
 impl Row {
