@@ -11,7 +11,7 @@ use Rattle.definitions.specs.Limits.{max32}
 use Rattle.definitions.specs.Usage.{Usage, nodes, nodesIn}
 use Rattle.definitions.specs.Table.{Setting}
 use Rattle.definitions.specs.Place.{Result, refused, done, place}
-use Rattle.definitions.specs.Inner.Storable.{Storable}
+use Rattle.definitions.specs.Sound.{Storable}
 use Rattle.definitions.specs.Inner.Pairs.{pairs}
 use Rattle.definitions.proofs.Bound.{Bounded, Within, Within.barred, Within.answer, place-within, mergeMem-within}
 use Rattle.definitions.proofs.Stored.{place-storable, mergeMem-storable}

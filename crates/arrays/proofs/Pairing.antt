@@ -8,7 +8,7 @@ use lib.ListN.{length}
 use Rattle.definitions.specs.Usage.{Size, Usage, array, size, nodes}
 use Rattle.definitions.specs.Table.{Setting}
 use Rattle.definitions.specs.Place.{Result, under, after}
-use Rattle.definitions.specs.Inner.Storable.{Storable}
+use Rattle.definitions.specs.Sound.{Storable}
 use Rattle.records.specs.Usages.{At}
 use Rattle.report.proofs.Emitting.{emitted-nothing}
 use Rattle.states.specs.States.{element, Outside, act, Pending, Numbers}

@@ -20,16 +20,17 @@ pub mod Parts
 pub mod Reports
 pub mod Bound
 pub mod Ends
+-- any placing, merge and fold keeps the stream rules
+pub mod Tops
+pub mod Storable
+pub mod Stored
 -- demand 3: folding sound usages
 pub mod Chains
 pub mod Keeps
 pub mod Demand
 pub mod Tested
 -- any placing, merge and fold again: few pairings, and answers that read back
-pub mod Tops
 pub mod FewPairings
-pub mod Storable
-pub mod Stored
 pub mod ReadsBack
 -- the worked rows
 pub mod Bench

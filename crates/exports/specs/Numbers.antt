@@ -5,6 +5,7 @@ use mathlib.Core.Path.{_≡_}
 use mathlib.Core.Bool.{Bool, true, false}
 use mathlib.Core.List.{List, [], _∷_}
 use Rattle.definitions.specs.Calls.{Answer, Written}
+use Rattle.serving.specs.Promised.{Promised}
 use Rattle.calls.specs.declared.Received.{Received}
 use Rattle.calls.specs.declared.Received.the-variants.{Nobody, First, Second}
 
@@ -26,3 +27,9 @@ pub record Leaves (w : Written) (answer output report : List ℕ) : Type 0 where
   pub numbers : answer ≡ numbersOf (w .answer)
   pub usage : output ≡ w .output
   pub reported : report ≡ w .report
+
+-- the numbers are those of an answer that keeps what is promised of folding sound nodes
+pub record LeavesPromised (table list answer output : List ℕ) : Type 0 where
+  pub told : Answer
+  pub numbers : answer ≡ numbersOf told
+  pub promised : Promised table list told output

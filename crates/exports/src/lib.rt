@@ -4,7 +4,7 @@ ghost use lib.ListN.{length};
 ghost use Rattle.definitions.specs.Calls.{receiverOf, soundCall, supportsCall, placeCall, mergeCall, foldCall};
 ghost use Rattle.answers.specs.Answers.{answerOf};
 ghost use Rattle.calls.specs.Received.{receivedOf};
-ghost use Rattle.exports.specs.Numbers.{numberOf, bit, numbersOf, Leaves};
+ghost use Rattle.exports.specs.Numbers.{numberOf, bit, numbersOf, Leaves, LeavesPromised};
 use answers::Answer;
 use calls::Received;
 
@@ -100,7 +100,7 @@ pub extern "C" fn qptr_merge(
     *answer = numbers(calls::merge(table, work, first, second, output, report));
 }
 
-// A list.
+// A list; with what is promised of sound nodes.
 #[no_mangle]
 pub extern "C" fn qptr_fold(
     table: &[u8],
@@ -111,6 +111,7 @@ pub extern "C" fn qptr_fold(
     answer: &mut [u64; 5],
 )
     ensures { λ r. ⌜ Leaves (foldCall (now (table .entry)) (length (now (work .entry))) (now (list .entry)) (now (output .entry)) (length (now (report .entry)))) (now (answer .exit)) (now (output .exit)) (now (report .exit)) ⌝ }
+    ensures { λ r. ⌜ LeavesPromised (now (table .entry)) (now (list .entry)) (now (answer .exit)) (now (output .exit)) ⌝ }
 {
     *answer = numbers(calls::fold(table, work, list, output, report));
 }

@@ -12,7 +12,8 @@ use Rattle.definitions.specs.Usage.{Usage, nodes, nodesOf, Nodes, allNodes}
 use Rattle.definitions.specs.Stream.{read, readNodes}
 use Rattle.definitions.specs.Table.{Setting}
 use Rattle.definitions.specs.Place.{Result, refused, done, after, mergeMem, ofNode, andThen, foldFrom, fold}
-use Rattle.definitions.specs.Inner.Storable.{Storable, AllStorable}
+use Rattle.definitions.specs.Sound.{Storable}
+use Rattle.definitions.specs.Inner.Storable.{AllStorable}
 use Rattle.definitions.proofs.Nodes.{some-node}
 use Rattle.definitions.proofs.After.{after-nothing, after-both}
 use Rattle.definitions.proofs.FewPairings.{mergeMem-few, fold-few}

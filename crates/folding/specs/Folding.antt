@@ -10,7 +10,8 @@ use Rattle.definitions.specs.Usage.{Usage, nodes, Nodes, allNodes}
 use Rattle.definitions.specs.Stream.{read, readNode, listOf}
 use Rattle.definitions.specs.Table.{Setting}
 use Rattle.definitions.specs.Place.{Result, refused, done, mergeMem, ofNode, fold}
-use Rattle.definitions.specs.Inner.Storable.{Storable, StorableList}
+use Rattle.definitions.specs.Sound.{Storable}
+use Rattle.definitions.specs.Inner.Storable.{StorableList}
 use Rattle.records.specs.Usages.{At}
 use Rattle.layout.specs.Places.{Known}
 use Rattle.transfer.specs.Loading.{KeptBelow}

@@ -10,7 +10,7 @@ use lib.Seq.{length-take-le}
 use Rattle.definitions.specs.Limits.{nodeLimit}
 use Rattle.definitions.specs.Usage.{Usage, nodes}
 use Rattle.definitions.specs.Table.{Setting}
-use Rattle.definitions.specs.Inner.Storable.{Storable}
+use Rattle.definitions.specs.Sound.{Storable}
 use Rattle.definitions.proofs.Nodes.{some-node}
 use Rattle.records.specs.Usages.{At}
 use Rattle.records.proofs.Usages.{at-move}

@@ -12,7 +12,7 @@ use Rattle.definitions.specs.If.{if_then_else_}
 use Rattle.definitions.specs.Usage.{Size, Usage, leaf}
 use Rattle.definitions.specs.Table.{Setting}
 use Rattle.definitions.specs.Place.{typeAtZero, Kept as KeptType, asked}
-use Rattle.definitions.specs.Inner.Storable.{Storable}
+use Rattle.definitions.specs.Sound.{Storable}
 use Rattle.records.specs.Records.{argumentIn}
 use Rattle.records.specs.Usages.{At}
 use Rattle.layout.specs.Places.{Known}

@@ -11,7 +11,7 @@ use Rattle.definitions.specs.If.{if_then_else_}
 use Rattle.definitions.specs.Usage.{Size, fixed, dynamic, Usage, map, Entries, none, entry, size, nodes, nodesIn, _<+>_}
 use Rattle.definitions.specs.Table.{Setting}
 use Rattle.definitions.specs.Place.{refused, ends, past32, _≤ˢ_, after, overlapping, joinFound, rebuilt, placeInMap, placeInKind, placeByKind, place, joined}
-use Rattle.definitions.specs.Inner.Storable.{Storable, Ascends}
+use Rattle.definitions.specs.Sound.{Storable, Ascends}
 use Rattle.records.specs.Records.{commandIn, sizeIn}
 use Rattle.records.specs.Usages.{At, EntriesAt}
 use Rattle.records.proofs.Usages.{same-at, at-move, entries-move}

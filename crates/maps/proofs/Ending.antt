@@ -6,7 +6,7 @@ use mathlib.Core.List.{List, []}
 use native.Mathlib.Omega.{arith}
 use Rattle.definitions.specs.Usage.{Size, Usage, map, Entries, none, entry, size, nodes, nodesIn, _<+>_}
 use Rattle.definitions.specs.Place.{done, after, insert, ofRule, straddleConflict}
-use Rattle.definitions.specs.Inner.Storable.{Ascends}
+use Rattle.definitions.specs.Sound.{Ascends}
 use Rattle.definitions.proofs.Nodes.{append-nodes}
 use Rattle.records.specs.Records.{offsetIn, Same, Shifted, Moved}
 use Rattle.records.specs.Usages.{At, EntriesAt}

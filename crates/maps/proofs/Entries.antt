@@ -5,7 +5,7 @@ use mathlib.Core.Path.{_≡_, refl, sym, ap, _∙_}
 use mathlib.Core.List.{List}
 use native.Mathlib.Omega.{arith}
 use Rattle.definitions.specs.Usage.{Usage, Entries, none, entry, nodes, nodesIn, _<+>_}
-use Rattle.definitions.specs.Inner.Storable.{Ascends}
+use Rattle.definitions.specs.Sound.{Ascends}
 use Rattle.definitions.proofs.Nodes.{some-node}
 use Rattle.definitions.proofs.Storable.{ascends-back, ascends-behind}
 use Rattle.records.specs.Records.{offsetIn}

@@ -7,7 +7,7 @@ use borrow.Author.Tests.{lt-ltb, le-ltb, eq-eqb, ne-eqb}
 use Rattle.definitions.specs.If.{if_then_else_}
 use Rattle.definitions.specs.Usage.{Usage, Entries, none, entry, _<+>_}
 use Rattle.definitions.specs.Place.{insert}
-use Rattle.definitions.specs.Inner.Storable.{Ascends}
+use Rattle.definitions.specs.Sound.{Ascends}
 use Rattle.definitions.proofs.Storable.{ascends-back}
 use Rattle.maps.specs.Joining.{Under, Over, Lowered, Lowered.whole, Lowered.short, Raised, Raised.whole, Raised.short}
 use Rattle.search.proofs.Behind.{append-assoc}

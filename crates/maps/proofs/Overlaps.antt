@@ -11,7 +11,7 @@ use Rattle.definitions.specs.Limits.{max32}
 use Rattle.definitions.specs.Usage.{Size, fixed, dynamic, Usage, Entries, none, entry, size, _<+>_}
 use Rattle.definitions.specs.Table.{Setting}
 use Rattle.definitions.specs.Place.{Placing, ends, past32, _≤ˢ_, past, searching, stopped, overlapNext, overlapping, join, rebuilt, joinFound}
-use Rattle.definitions.specs.Inner.Storable.{Ascends}
+use Rattle.definitions.specs.Sound.{Ascends}
 use Rattle.definitions.proofs.Storable.{ascends-back}
 use Rattle.search.specs.Parts.{Crossing, anyPast, Ended, nothing, by, Starts, Parted}
 use Rattle.search.specs.declared.Overlap.{Overlap}

@@ -5,7 +5,7 @@ use mathlib.Core.Path.{_≡_, refl, sym, ap, _∙_}
 use mathlib.Core.List.{List}
 use native.Mathlib.Omega.{arith}
 use Rattle.definitions.specs.Usage.{Usage, Entries, none, entry, nodesIn, _<+>_}
-use Rattle.definitions.specs.Inner.Storable.{Ascends}
+use Rattle.definitions.specs.Sound.{Ascends}
 use Rattle.records.specs.Records.{offsetIn}
 use Rattle.records.specs.Usages.{EntriesAt}
 use Rattle.records.proofs.Usages.{root-of, first-entry, entries-split}

@@ -9,7 +9,7 @@ use Rattle.definitions.specs.Limits.{max32}
 use Rattle.definitions.specs.Usage.{Size, Usage, Entries, none, entry, size, nodes, nodesIn, _<+>_}
 use Rattle.definitions.specs.Table.{Setting}
 use Rattle.definitions.specs.Place.{Joining}
-use Rattle.definitions.specs.Inner.Storable.{Storable, Ascends}
+use Rattle.definitions.specs.Sound.{Storable, Ascends}
 use Rattle.definitions.proofs.Storable.{ascends-back}
 use Rattle.records.specs.Records.{sizeIn, offsetIn, Same}
 use Rattle.records.specs.Usages.{At, EntriesAt}

@@ -7,7 +7,7 @@ use Rattle.definitions.specs.Usage.{Size, Usage, map, Entries, none, entry, siz
 use Rattle.definitions.specs.Stream.{bytes}
 use Rattle.definitions.specs.Table.{Setting}
 use Rattle.definitions.specs.Place.{straddleConflict, Joining, straddled, joinedAt, joinEntry, place}
-use Rattle.definitions.specs.Inner.Storable.{Ascends}
+use Rattle.definitions.specs.Sound.{Ascends}
 use Rattle.records.specs.Records.{commandIn, sizeIn, offsetIn, Same}
 use Rattle.records.specs.Usages.{At, EntriesAt}
 use Rattle.report.specs.Emitted.{Emitted}

@@ -11,7 +11,7 @@ use Rattle.definitions.specs.Usage.{Usage, nodes}
 use Rattle.definitions.specs.Stream.{writeNode, read, readNode}
 use Rattle.definitions.specs.Table.{Table, Setting}
 use Rattle.definitions.specs.Place.{Result}
-use Rattle.definitions.specs.Inner.Storable.{Storable}
+use Rattle.definitions.specs.Sound.{Storable}
 use Rattle.definitions.proofs.FewPairings.{place-few, mergeMem-few}
 use Rattle.definitions.proofs.Writable.{Writable}
 use Rattle.definitions.proofs.Storable.{known-storable}

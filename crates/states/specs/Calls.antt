@@ -7,7 +7,7 @@ use Rattle.definitions.specs.Limits.{nodeLimit}
 use Rattle.definitions.specs.Usage.{Usage, nodes}
 use Rattle.definitions.specs.Table.{Setting}
 use Rattle.definitions.specs.Place.{Result, refused, done, place, mergeMem}
-use Rattle.definitions.specs.Inner.Storable.{Storable}
+use Rattle.definitions.specs.Sound.{Storable}
 use Rattle.records.specs.Usages.{At}
 use Rattle.layout.specs.Places.{Known}
 use Rattle.report.specs.Emitted.{Emitted}

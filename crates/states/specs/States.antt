@@ -8,7 +8,7 @@ use Rattle.definitions.specs.Usage.{Size, In32, Usage, array, map, Entries, non
 use Rattle.definitions.specs.Stream.{bytes}
 use Rattle.definitions.specs.Table.{Setting}
 use Rattle.definitions.specs.Place.{Result, refused, done, after, headed, ofEntry, Joining, joined, rebuilt, placeEntries, joinNext, placeByKind, placeOne, place, mergeMem}
-use Rattle.definitions.specs.Inner.Storable.{Storable, Ascends}
+use Rattle.definitions.specs.Sound.{Storable, Ascends}
 use Rattle.definitions.specs.Inner.Pairs.{pairs as apart, pairsIn as apartIn}
 use Rattle.records.specs.Records.{commandIn, sizeIn, argumentIn}
 use Rattle.records.specs.Usages.{At, EntriesAt}

@@ -1,7 +1,7 @@
--- `qptr_fold` meets its contract: the numbers of what `fold` answers, and the buffers that it leaves.
+-- `qptr_fold` meets its contract: the numbers of what `fold` answers, and the buffers that it leaves, with what is promised of them.
 -- Assumes nothing.
 use borrow.Author.Needs.{needs}
-use Rattle.exports.proofs.Leaving.{leaves}
+use Rattle.exports.proofs.Leaving.{leaves, leaves-promised}
 use Rattle.exports.proofs.qptr_fold.Statement.{statement}
 use Rattle.exports.proofs.qptr_fold.Tie as tie
 
@@ -21,7 +21,9 @@ same-length-3 : tie.Need-same-length-3
 same-length-3 c = search needs
 
 returns : tie.Need-returns
-returns c = leaves (c .numbers .ensures) (c .before .before .before .before .before .before .before .fold .ensures .0)
+returns c =
+    let fold = c .before .before .before .before .before .before .before .fold in
+    (leaves (c .numbers .ensures) (fold .ensures .0), leaves-promised (c .numbers .ensures) (fold .ensures .1))
 
 pub qptr-fold-spec : {M : Type 1} → statement M
 qptr-fold-spec =

@@ -34,7 +34,8 @@ returns c =
     let a = accept .before .before .before .before .before .before .before .before .before .before .args in
     let output = a .output .now in
     let n = length (a .rep .now) in
-    with-promise (a .table .now) (length (a .work .now)) (a .list .now) output n
+    with-promise (a .table .now) (length (a .work .now)) (a .list .now)
+    (λ i. accept .before .before .before .before .before .before .shared-slice-known2 .given i .fits) output n
     (fold-refused (a .table .now) (length (a .work .now)) (a .list .now) (rw (accept .before .list .ensures) at (accept .accept .ensures)) output n (c .before .before .before .before .if1 .taken) (c .before .before .refuse .ensures))
 
 fold-nodes-requires : tie.Need-fold-nodes-requires
@@ -67,7 +68,8 @@ returns-2 c =
     let a = accept .before .before .before .before .before .before .before .before .before .before .args in
     let output = a .output .now in
     let n = length (a .rep .now) in
-    with-promise (a .table .now) (length (a .work .now)) (a .list .now) output n
+    with-promise (a .table .now) (length (a .work .now)) (a .list .now)
+    (λ i. accept .before .before .before .before .before .before .shared-slice-known2 .given i .fits) output n
     (fold-given (a .table .now) (length (a .work .now)) (a .list .now) (rw (accept .before .list .ensures) at (accept .accept .ensures)) (c .before .before .before .before .before .before .before .before .before .before .before .before .before .before .before .before .if1 .left) (λ i. accept .before .before .before .before .before .before .shared-slice-known2 .given i .fits) (c .before .before .before .before .before .before .before .before .before .before .before .before .fold-nodes .ensures) output n (omega arith) (c .before .before .before .before .finish .ensures))
 
 pub fold-spec : {M : Type 1} → statement M
