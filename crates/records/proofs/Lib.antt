@@ -1,6 +1,5 @@
 pub mod Numbers
 pub mod Widths
-pub mod Words
 pub mod Usages
 pub mod Parts
 pub mod Writing
