@@ -12,7 +12,7 @@ use Rattle.definitions.specs.Stream.{bytes}
 use Rattle.definitions.specs.Table.{Setting, concrete, scalar, tableOf}
 use Rattle.definitions.specs.Support.{supports, supportsIn}
 use Rattle.definitions.specs.Place.{done, place, placeIn, mergeMem}
-use Rattle.records.specs.Words.{word}
+use Rattle.records.specs.Words.{numberAt}
 use Rattle.records.specs.Usages.{At}
 use Rattle.layout.specs.Places.{Placed}
 use Rattle.states.specs.Calls.{Ready, Near}
@@ -48,7 +48,7 @@ placed zero l = record { kept = omega arith; rest = []; stands = refl; admits = 
 placed (suc ty) l = absurd (omega arith)
 
 ready : Ready table places both 2 1
-unfolding table setting receiver newcomer both row tableOf if_then_else_ At word
+unfolding table setting receiver newcomer both row tableOf if_then_else_ At numberAt
 ready = record {
   setting = setting;
   known = record { read = refl; placed = placed };
@@ -75,7 +75,7 @@ ready = record {
 
 -- the map's only entry begins at record 1
 finger : Finger both 0 2 1
-unfolding both row At word
+unfolding both row At numberAt
 finger = record {
   begins = λ _. record {
     low = none;

@@ -8,10 +8,10 @@ use Rattle.definitions.specs.Usage.{Usage, unused, leaf, map, array, Entries, n
 use Rattle.definitions.specs.Command.{headOf}
 use Rattle.definitions.specs.Stream.{bytes, writeHead, writeNode, writeEntries}
 use Rattle.definitions.proofs.Numbers.{bytes-length}
-use Rattle.transfer.proofs.Widths.{head-length, argument-width}
+use Rattle.transfer.proofs.Widths.{head-length, own-small}
 
 own-bytes : (u : Usage) → length (writeHead (headOf u)) ≤ 10
-own-bytes u = omega (arith, head-length (headOf u), argument-width u .small)
+own-bytes u = omega (arith, head-length (headOf u), own-small u)
 
 mutual
   pub written-bytes : (u : Usage) → length (writeNode u) + 4 ≤ 14 * nodes u

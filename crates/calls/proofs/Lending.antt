@@ -6,8 +6,8 @@ use mathlib.Core.Path.{_≡_}
 use mathlib.Core.Bool.{Bool, true}
 use mathlib.Core.List.{List}
 use lib.ListN.{length}
-use Rattle.layout.specs.Bytes.{pair}
+use Rattle.layout.specs.Bytes.{recordCount}
 use Rattle.layout.specs.Places.{Room}
 
-pub few-lent : (s places : List ℕ) {b : Bool} → (b ≡ true → pair s 0 ≤ 32) → b ≡ true → 32 ≤ length places → Room s places
+pub few-lent : (s places : List ℕ) {b : Bool} → (b ≡ true → recordCount s ≤ 32) → b ≡ true → 32 ≤ length places → Room s places
 few-lent s places few test room says = omega (arith, few test)

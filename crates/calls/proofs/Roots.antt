@@ -2,19 +2,18 @@
 -- Assumes nothing.
 use Prim.Native.Nat.{ℕ, zero, suc}
 use mathlib.Core.Path.{_≡_, refl, ap}
-use mathlib.Core.List.{List, [], _∷_}
-use native.Mathlib.Omega.{arith}
+use mathlib.Core.List.{List}
 use borrow.Author.Tests.{eqb-true}
 use lib.Dec.{eqb, ltb}
 use lib.ListN.{drop}
 use Rattle.definitions.specs.Usage.{Size, Usage, none, count}
-use Rattle.definitions.specs.Command.{Head, headOf, commandAt, argumentWidth}
-use Rattle.definitions.specs.Stream.{Read, broken, _then_, number, readSize, readEntries, readNode, body}
+use Rattle.definitions.specs.Command.{Head, headOf}
+use Rattle.definitions.specs.Stream.{Read, broken, _then_, number, readEntries, readNode, body}
 use Rattle.definitions.proofs.Choice.{either, decide}
 use Rattle.definitions.proofs.Reading.{Reads, stops, gives, reads-any, reads-then, reads-is}
 use Rattle.stream.specs.Head.{head, PartAt}
 use Rattle.stream.proofs.Then.{never}
-use Rattle.stream.proofs.Heads.{read-head}
+use Rattle.stream.proofs.Heads.{read-head, head-own}
 use Rattle.qptr.specs.Values.{sizeOf}
 use Rattle.qptr.specs.declared.Node.{Node}
 use Rattle.calls.specs.Roots.{RootOf}
@@ -23,25 +22,6 @@ use Rattle.serving.proofs.Memories.{Memory}
 -- whatever was read first
 any-then : {A B : Type 0} {Q : B → List ℕ → Type 0} (r : Read A) {next : A → List ℕ → Read B} → ((a : A) (rest : List ℕ) → Reads Q (next a rest)) → Reads Q (r then next)
 any-then r on = reads-then (reads-any r) (λ a rest _. on a rest)
-
--- an Unused has no argument
-abbrev Bare : Head → Type 0
-Bare h = h .command ≡ 0x00 → h .argument ≡ 0
-
-number-none : (w : ℕ) (bs : List ℕ) → Reads (λ n rest. w ≡ 0 → n ≡ 0) (number w bs)
-number-none zero bs = gives 0 bs (λ _. refl)
-number-none (suc w) [] = stops
-number-none (suc w) (b ∷ bs) = any-then (number w bs) λ n rest. gives _ rest (λ e. absurd (omega arith))
-
-head-bare : (bs : List ℕ) → Reads (λ h rest. Bare h) (head bs)
-unfolding head commandAt
-head-bare [] = stops
-head-bare (c ∷ bs) =
-    any-then (readSize bs) λ s bs₁.
-    reads-then (number-none (argumentWidth c) bs₁) λ n rest none.
-    let bare : Bare (record { command = c; size = s; argument = n }) = λ e. none (ap argumentWidth e) in
-    either (Reads _) (ltb 0x04 c) stops
-    (either (Reads _) (eqb c 0x04) (either (Reads _) (eqb n 0) stops (gives _ rest bare)) (gives _ rest bare))
 
 entries-count : (node : List ℕ → Read Usage) (k p : ℕ) (bs : List ℕ) → Reads (λ es rest. count es ≡ k) (readEntries node k p bs)
 entries-count node zero p bs = gives none bs refl
@@ -73,7 +53,7 @@ module _ {bs : List ℕ} {n t : ℕ} (m : Memory bs n t) where
         counted = m .counted;
         own =
             reads-is
-            (body-own readNode (node .command) (sizeOf (node .size)) (node .argument) (drop end bs) (reads-is (head-bare (drop 1 bs)) (part .reads)))
+            (body-own readNode (node .command) (sizeOf (node .size)) (node .argument) (drop end bs) (head-own _ _ _ (part .reads) .bare))
             (rw (read-head (drop 1 bs), part .reads) at (m .reads));
       }
 

@@ -13,8 +13,7 @@ use Rattle.definitions.specs.If.{if_then_else_}
 use Rattle.definitions.specs.Stream.{broken, whole}
 use Rattle.definitions.proofs.Choice.{either}
 use Rattle.records.specs.Words.{word}
-use Rattle.records.proofs.Words.{word-number}
-use Rattle.stream.proofs.Places.{number-short}
+use Rattle.records.proofs.Numbers.{number-at, number-short}
 use Rattle.stream.proofs.Wholes.{whole-all, whole-not}
 use Rattle.frame.specs.Frame.{inputLimit, readBlock, readBlocks, blocksOf}
 use Rattle.frame.specs.Places.{BlockAt, BlocksAt}
@@ -25,14 +24,14 @@ module _ (s : List ℕ) (at : ℕ) where
 
   pub block-short : (n : ℕ) → n ≡ word s at → at + 4 ≤ length s → length s - at - 4 < n → readBlock (drop at s) ≡ broken
   unfolding if_then_else_
-  block-short n e h short = rw (word-number s at h, ← e, lt-ltb (length (drop (at + 4) s)) n (rw length-drop (omega arith)))
+  block-short n e h short = rw (number-at 4 s at (at + 4) refl h, ← e, lt-ltb (length (drop (at + 4) s)) n (rw length-drop (omega arith)))
 
   pub block-whole : (n : ℕ) → n ≡ word s at → at + 4 + n ≤ length s → BlockAt s at (at + 4 + n)
   unfolding if_then_else_
   block-whole n e h =
       let long : at + 4 + n - (at + 4) ≡ n = omega arith in
       record {
-        reads = rw (word-number s at (omega arith), ← e, le-ltb (length (drop (at + 4) s)) n (rw length-drop (omega arith)), drop-drop, long);
+        reads = rw (number-at 4 s at (at + 4) refl (omega arith), ← e, le-ltb (length (drop (at + 4) s)) n (rw length-drop (omega arith)), drop-drop, long);
         some = omega arith;
         within = h;
       }

@@ -1,24 +1,25 @@
 -- The bytes of a top: the first says of which kind it is, and behind an Opaque's stands its type. So an Opaque and another top conflict
 -- unless both their first bytes and what stands behind them are the same.
 -- Assumes nothing.
-use Prim.Native.Nat.{ℕ, _≤_}
+use Prim.Native.Nat.{ℕ, _+_, _≤_}
 use mathlib.Core.Path.{_≡_, refl, sym, _∙_}
 use mathlib.Core.List.{List, []}
 use mathlib.Core.Option.{some}
 use native.Mathlib.Omega.{arith}
 use borrow.Author.Tests.{ne-eqb, eq-eqb}
-use lib.ListN.{length, getD, drop}
+use lib.ListN.{length, getD}
 use Rattle.definitions.specs.If.{if_then_else_}
 use Rattle.definitions.specs.Usage.{Top, opaque, buffer, memory}
-use Rattle.definitions.specs.Command.{commandAt}
-use Rattle.definitions.specs.Stream.{writeTop, read, number, topOf}
+use Rattle.definitions.specs.Command.{commandAt, argumentWidth}
+use Rattle.definitions.specs.Stream.{writeTop, topOf}
 use Rattle.definitions.specs.Table.{Setting}
 use Rattle.definitions.specs.Place.{done, unlike, merge}
 use Rattle.definitions.proofs.Written.{Bytes}
-use Rattle.definitions.proofs.Numbers.{number-bytes}
+use Rattle.definitions.proofs.Numbers.{bytes-length}
 use Rattle.definitions.proofs.Rounds.{top-written}
-use Rattle.records.specs.Words.{word}
-use Rattle.records.proofs.Words.{word-number}
+use Rattle.records.specs.Words.{Width, numberAt}
+use Rattle.records.proofs.Numbers.{number-is}
+use Rattle.records.proofs.Widths.{argument-width}
 use Rattle.inputs.specs.Tops.{OpaqueFirst, Conflicts}
 
 abbrev pub firstByte : Top → ℕ
@@ -38,23 +39,21 @@ module _ (bs : List ℕ) (bytes : Bytes bs) where
   pub first-byte : {x : Top} → topOf bs ≡ some x → getD bs 0 0 ≡ firstByte x
   first-byte {x} e = rw (top-written bs x bytes e .0) (begins x .0)
 
-  pub opaque-bytes : {t : ℕ} → topOf bs ≡ some (opaque t) → 5 ≤ length bs
-  unfolding commandAt
-  opaque-bytes {t} e = rw (top-written bs (opaque t) bytes e .0) (omega arith)
+  pub opaque-bytes : {t w : ℕ} → w ≡ argumentWidth 0x08 → topOf bs ≡ some (opaque t) → Width w × (1 + w ≤ length bs)
+  opaque-bytes {t} width e = rw width (argument-width 0x08, rw (top-written bs (opaque t) bytes e .0) (omega (arith, bytes-length (argumentWidth 0x08) t)))
 
-  opaque-type : {t : ℕ} → topOf bs ≡ some (opaque t) → word bs 1 ≡ t
+  opaque-type : {t w : ℕ} → w ≡ argumentWidth 0x08 → topOf bs ≡ some (opaque t) → numberAt w bs 1 ≡ t
   unfolding commandAt
-  opaque-type {t} e =
+  opaque-type {t} width e =
       let w = top-written bs (opaque t) bytes e in
-      let here : number 4 (drop 1 bs) ≡ read t [] = rw (w .0) (number-bytes 4 t [] (omega (arith, w .1))) in
-      cc (word-number bs 1 (opaque-bytes e))
+      rw width (number-is 4 bs 1 t [] (omega (arith, w .1)) (rw (w .0)))
 
 module _ (first second : List ℕ) (bytes : Bytes first) (bytes′ : Bytes second) where
-  pub other-bytes : OpaqueFirst first second → getD first 0 0 ≡ getD second 0 0 → 5 ≤ length second
-  other-bytes tops same = go (tops .other) (tops .second-is)
+  pub other-bytes : {w : ℕ} → w ≡ argumentWidth 0x08 → OpaqueFirst first second → getD first 0 0 ≡ getD second 0 0 → Width w × (1 + w ≤ length second)
+  other-bytes {w} width tops same = go (tops .other) (tops .second-is)
     where
-      go : (x : Top) → topOf second ≡ some x → 5 ≤ length second
-      go (opaque t) e = opaque-bytes second bytes′ e
+      go : (x : Top) → topOf second ≡ some x → Width w × (1 + w ≤ length second)
+      go (opaque t) e = opaque-bytes second bytes′ width e
       go (buffer u) e = absurd (omega (arith, first-byte first bytes (tops .first-is), first-byte second bytes′ e))
       go (memory u) e = absurd (omega (arith, first-byte first bytes (tops .first-is), first-byte second bytes′ e))
 
@@ -66,20 +65,20 @@ module _ (first second : List ℕ) (bytes : Bytes first) (bytes′ : Bytes secon
       of st t (buffer u) e f = refl
       of st t (memory u) e f = refl
 
-  pub other-type : (word first 1 ≡ word second 1 → ⊥) → Conflicts first second 1
+  pub other-type : {w : ℕ} → w ≡ argumentWidth 0x08 → (numberAt w first 1 ≡ numberAt w second 1 → ⊥) → Conflicts first second 1
   unfolding if_then_else_
-  other-type differ = record { small = omega arith; of = of }
+  other-type width differ = record { small = omega arith; of = of }
     where
       of : (st : Setting) (t : ℕ) (b : Top) → topOf first ≡ some (opaque t) → topOf second ≡ some b → merge st (opaque t) b ≡ unlike (opaque t)
-      of st t (opaque s) e f = rw (ne-eqb t s (λ same. differ (opaque-type first bytes e ∙ same ∙ sym (opaque-type second bytes′ f))))
+      of st t (opaque s) e f = rw (ne-eqb t s (λ same. differ (opaque-type first bytes width e ∙ same ∙ sym (opaque-type second bytes′ width f))))
       of st t (buffer u) e f = refl
       of st t (memory u) e f = refl
 
-  pub same-opaque : getD first 0 0 ≡ getD second 0 0 → word first 1 ≡ word second 1 → Conflicts first second 0
+  pub same-opaque : {w : ℕ} → w ≡ argumentWidth 0x08 → getD first 0 0 ≡ getD second 0 0 → numberAt w first 1 ≡ numberAt w second 1 → Conflicts first second 0
   unfolding if_then_else_
-  same-opaque same same-type = record { small = omega arith; of = of }
+  same-opaque width same same-type = record { small = omega arith; of = of }
     where
       of : (st : Setting) (t : ℕ) (b : Top) → topOf first ≡ some (opaque t) → topOf second ≡ some b → merge st (opaque t) b ≡ done (opaque t) [] 0
-      of st t (opaque s) e f = rw (eq-eqb t s (sym (opaque-type first bytes e) ∙ same-type ∙ opaque-type second bytes′ f))
+      of st t (opaque s) e f = rw (eq-eqb t s (sym (opaque-type first bytes width e) ∙ same-type ∙ opaque-type second bytes′ width f))
       of st t (buffer u) e f = absurd (omega (arith, first-byte first bytes e, first-byte second bytes′ f))
       of st t (memory u) e f = absurd (omega (arith, first-byte first bytes e, first-byte second bytes′ f))

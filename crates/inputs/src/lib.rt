@@ -11,12 +11,17 @@ use answers::BAD_TABLE;
 use answers::MANY_NODES;
 use answers::SHORT_WORK;
 use answers::UNKNOWN_TYPE;
+use qptr::Command;
+use records::number;
 use stream::Found;
 
 // The bytes of a work area, and the nodes of all inputs together: `workLimit` and `nodeLimit`, which the contracts hold them to.
 pub const WORK: usize = 49152;
 
 pub const NODES: usize = 512;
+
+// The command of an Opaque.
+const OPAQUE: u8 = 0x08;
 
 // What is known of a call's streams: the refusal that they meet, or 0 and their nodes.
 pub struct Inputs {
@@ -98,7 +103,8 @@ pub fn conflicts(first: &[u8], second: &[u8]) -> usize
     if first[0] != second[0] {
         return 1;
     }
-    if records::get32(first, 1) != records::get32(second, 1) {
+    let width = Command::of(OPAQUE).argument as usize;
+    if number(first, 1, width) != number(second, 1, width) {
         return 1;
     }
     0

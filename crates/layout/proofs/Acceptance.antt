@@ -14,13 +14,13 @@ use borrow.Author.Tests.{lt-ltb, le-ltb, not-true, not-false}
 use Rattle.definitions.specs.If.{if_then_else_}
 use Rattle.definitions.specs.Stream.{broken, read}
 use Rattle.definitions.specs.Table.{Table, TypeLayout as Layout, failed, readLayout, readRecords, readTable, admitted, tableOf}
-use Rattle.layout.specs.Bytes.{pair}
+use Rattle.records.proofs.Numbers.{number-at, number-short}
+use Rattle.layout.specs.Bytes.{recordCount}
 use Rattle.layout.specs.Values.{Whole, Ended, Ends}
 use Rattle.layout.specs.Places.{Places, Stand, Admitted, Room, Found, Accepted}
 use Rattle.layout.specs.declared.RecordEnd.{RecordEnd}
 use Rattle.layout.specs.declared.RecordEnd.the-variants.{At, Broken}
 use Rattle.layout.proofs.Clash.{clash}
-use Rattle.layout.proofs.Numbers.{two, short}
 
 pub whole-record : {s : List ℕ} {at end : ℕ} {e : RecordEnd} → Ends s at e → e ≡ At end → Whole s at
 whole-record {s} {at} {end} x y = let w : Ended s at end = rw y at x in record { layout = w .layout; rest = _; stands = w .stands }
@@ -89,13 +89,13 @@ unfolding tableOf
 refused s e = rw e
 
 pub no-count : (s : List ℕ) → length s < 2 → tableOf s ≡ nothing
-no-count s h = refused s (rw (short 2 s 0 (omega arith) h))
+no-count s h = refused s (rw (number-short 2 s h))
 
-pub many-records : (s : List ℕ) (count : ℕ) → 2 ≤ length s → count ≡ pair s 0 → 1024 < count → tableOf s ≡ nothing
+pub many-records : (s : List ℕ) (count : ℕ) → 2 ≤ length s → count ≡ recordCount s → 1024 < count → tableOf s ≡ nothing
 unfolding if_then_else_
-many-records s count h e m = refused s (rw (two s 0 2 refl h, ← e, lt-ltb 1024 count m))
+many-records s count h e m = refused s (rw (number-at 2 s 0 2 refl h, ← e, lt-ltb 1024 count m))
 
-pub first-record : (s places : List ℕ) (count : ℕ) → Room s places → 2 ≤ length s → count ≡ pair s 0 → count ≤ 1024 → Reading s places count 2 0
+pub first-record : (s places : List ℕ) (count : ℕ) → Room s places → 2 ≤ length s → count ≡ recordCount s → count ≤ 1024 → Reading s places count 2 0
 unfolding if_then_else_
 first-record s places count w h e m =
     let z : count - 0 ≡ count = omega arith in
@@ -107,7 +107,7 @@ first-record s places count w h e m =
       room = omega (arith, w (omega arith));
       inside = h;
       near = omega arith;
-      is = rw (two s 0 2 refl h, ← e, le-ltb 1024 count m, z);
+      is = rw (number-at 2 s 0 2 refl h, ← e, le-ltb 1024 count m, z);
     }
 
 module _ {s places : List ℕ} {count at n : ℕ} (h : Reading s places count at n) where

@@ -10,10 +10,10 @@ use borrow.Author.Tests.{ne-eqb, le-ltb}
 use Rattle.definitions.specs.If.{if_then_else_}
 use Rattle.definitions.specs.Stream.{read}
 use Rattle.definitions.specs.Table.{scalar, elements, fields, TypeLayout, concrete, handle, failed, readLayout}
-use Rattle.records.specs.Words.{word}
-use Rattle.layout.specs.Bytes.{pair, fieldsAt}
+use Rattle.records.specs.Words.{numberAt, word}
+use Rattle.records.proofs.Numbers.{number-at}
+use Rattle.layout.specs.Bytes.{fieldsAt}
 use Rattle.layout.specs.Values.{Ended}
-use Rattle.layout.proofs.Numbers.{four, two}
 use Rattle.layout.proofs.Fields.{fields-read}
 
 module _ (s : List ℕ) (p : ℕ) where
@@ -36,7 +36,7 @@ module _ (s : List ℕ) (p : ℕ) where
   unfolding if_then_else_
   scalar-ends h k =
       ended (concrete (word s (p + 1)) (word s (p + 5)) scalar) 9 (omega arith) h
-      (rw (from-kind 0x20 (omega arith) k, four s (p + 1) (p + 5) (omega arith) (omega arith), four s (p + 5) (p + 9) (omega arith) h))
+      (rw (from-kind 0x20 (omega arith) k, number-at 4 s (p + 1) (p + 5) (omega arith) (omega arith), number-at 4 s (p + 5) (p + 9) (omega arith) h))
 
   pub elements-ends : p + 21 ≤ length s → getD s p 0 ≡ 0x21 → (word s (p + 9) ≡ 0 → ⊥) → Ended s p (p + 21)
   unfolding if_then_else_
@@ -45,23 +45,23 @@ module _ (s : List ℕ) (p : ℕ) where
       ended (concrete (word s (p + 1)) (word s (p + 5)) parts) 21 (omega arith) h
       (rw (
         from-kind 0x21 (omega arith) k,
-        four s (p + 1) (p + 5) (omega arith) (omega arith),
-        four s (p + 5) (p + 9) (omega arith) (omega arith),
-        four s (p + 9) (p + 13) (omega arith) (omega arith),
-        four s (p + 13) (p + 17) (omega arith) (omega arith),
-        four s (p + 17) (p + 21) (omega arith) h,
+        number-at 4 s (p + 1) (p + 5) (omega arith) (omega arith),
+        number-at 4 s (p + 5) (p + 9) (omega arith) (omega arith),
+        number-at 4 s (p + 9) (p + 13) (omega arith) (omega arith),
+        number-at 4 s (p + 13) (p + 17) (omega arith) (omega arith),
+        number-at 4 s (p + 17) (p + 21) (omega arith) h,
         ne-eqb (word s (p + 9)) 0 w,
       ))
 
-  pub fields-end : (n : ℕ) → n ≡ pair s (p + 9) → n ≤ 64 → p + (11 + n * 8) ≤ length s → getD s p 0 ≡ 0x22 → Ended s p (p + (11 + n * 8))
+  pub fields-end : (n : ℕ) → n ≡ numberAt 2 s (p + 9) → n ≤ 64 → p + (11 + n * 8) ≤ length s → getD s p 0 ≡ 0x22 → Ended s p (p + (11 + n * 8))
   unfolding if_then_else_
   fields-end n e m h k =
       ended (concrete (word s (p + 1)) (word s (p + 5)) (fields (fieldsAt s (p + 11) n))) (11 + n * 8) (omega arith) h
       (rw (
         from-kind 0x22 (omega arith) k,
-        four s (p + 1) (p + 5) (omega arith) (omega arith),
-        four s (p + 5) (p + 9) (omega arith) (omega arith),
-        two s (p + 9) (p + 11) (omega arith) (omega arith),
+        number-at 4 s (p + 1) (p + 5) (omega arith) (omega arith),
+        number-at 4 s (p + 5) (p + 9) (omega arith) (omega arith),
+        number-at 2 s (p + 9) (p + 11) (omega arith) (omega arith),
         ← e,
         le-ltb 64 n m,
         fields-read s n (p + 11) (p + (11 + n * 8)) (omega arith) h,

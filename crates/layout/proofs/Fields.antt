@@ -8,21 +8,21 @@ use lib.ListN.{length, drop}
 use Rattle.definitions.specs.Stream.{Read, broken, read, _then_}
 use Rattle.definitions.specs.Table.{Field, readFields}
 use Rattle.records.specs.Words.{word}
+use Rattle.records.proofs.Numbers.{number-at, number-then}
 use Rattle.layout.specs.Bytes.{fieldsAt}
-use Rattle.layout.proofs.Numbers.{four, four-then}
 
 pub fields-read : (s : List ℕ) (k i j : ℕ) → i + k * 8 ≡ j → j ≤ length s → readFields k (drop i s) ≡ read (fieldsAt s i k) (drop j s)
 fields-read s zero i j e h = let z : i ≡ j = omega arith in rw z
 fields-read s (suc k) i j e h =
-    rw (four s i (i + 4) (omega arith) (omega arith), four s (i + 4) (i + 8) (omega arith) (omega arith), fields-read s k (i + 8) j (omega arith) h)
+    rw (number-at 4 s i (i + 4) (omega arith) (omega arith), number-at 4 s (i + 4) (i + 8) (omega arith) (omega arith), fields-read s k (i + 8) j (omega arith) h)
 
--- as `four-then`, of all fields
+-- as `number-then`, of all fields
 pub fields-then : {B : Type 0} (P : Read B → Type 0) (s : List ℕ) (k i j : ℕ) (next : List Field → List ℕ → Read B) → i + k * 8 ≡ j → i ≤ length s →
     P broken → (j ≤ length s → P (next (fieldsAt s i k) (drop j s))) → P (readFields k (drop i s) then next)
 fields-then P s zero i j next e l b f = let z : i ≡ j = omega arith in rw z (f (omega arith))
 fields-then P s (suc k) i j next e l b f =
-    four-then (λ x. P (x then next)) s i (i + 4) _ l b (omega arith) λ l₁.
-    four-then (λ x. P (x then next)) s (i + 4) (i + 8) _ l₁ b (omega arith) λ l₂.
+    number-then (λ x. P (x then next)) 4 s i (i + 4) _ l b (omega arith) λ l₁.
+    number-then (λ x. P (x then next)) 4 s (i + 4) (i + 8) _ l₁ b (omega arith) λ l₂.
     fields-then (λ x. P (x then next)) s k (i + 8) j _ (omega arith) l₂ b f
 
 -- the fields from i on, and the first of them

@@ -5,8 +5,7 @@ use native.Mathlib.Omega.{arith}
 use mathlib.Core.Path.{_≡_, refl}
 use mathlib.Core.List.{List}
 use lib.ListN.{length, getD}
-use Rattle.records.specs.Words.{word}
-use Rattle.layout.specs.Bytes.{pair}
+use Rattle.records.specs.Words.{numberAt, word}
 use Rattle.layout.specs.Values.{layoutIn, Whole, Reads}
 use Rattle.layout.specs.declared.Components.the-variants.{Scalar, Elements, Fields}
 use Rattle.layout.specs.declared.TypeLayout.{TypeLayout}
@@ -35,9 +34,9 @@ module _ (s : List ℕ) (p : ℕ) (whole : Whole s p) where
   -- the kind that is left
   pub fields-room :
       (getD s p 0 ≡ 0x23 → ⊥) → (getD s p 0 ≡ 0x24 → ⊥) → (getD s p 0 ≡ 0x20 → ⊥) → (getD s p 0 ≡ 0x21 → ⊥) →
-      (p + (11 + pair s (p + 9) * 8) ≤ length s) × (pair s (p + 9) ≤ 64) × (getD s p 0 ≡ 0x22)
+      (p + (11 + numberAt 2 s (p + 9) * 8) ≤ length s) × (numberAt 2 s (p + 9) ≤ 64) × (getD s p 0 ≡ 0x22)
   fields-room n₃ n₄ n₀ n₁ =
-      each-kind s p (λ l. (p + (11 + pair s (p + 9) * 8) ≤ length s) × (pair s (p + 9) ≤ 64) × (getD s p 0 ≡ 0x22))
+      each-kind s p (λ l. (p + (11 + numberAt 2 s (p + 9) * 8) ≤ length s) × (numberAt 2 s (p + 9) ≤ 64) × (getD s p 0 ≡ 0x22))
       (omega arith) (omega arith) (omega arith) (omega arith) (omega arith)
       _ _ (whole .stands)
 
@@ -83,7 +82,7 @@ module _ (s : List ℕ) (p : ℕ) (whole : Whole s p) where
 
   pub reads-fields : {r : TypeLayout} (count : ℕ) →
       (getD s p 0 ≡ 0x23 → ⊥) → (getD s p 0 ≡ 0x24 → ⊥) → (getD s p 0 ≡ 0x20 → ⊥) → (getD s p 0 ≡ 0x21 → ⊥) →
-      count ≡ pair s (p + 9) → r ≡ Concrete (word s (p + 1)) (word s (p + 5)) (Fields (p + 11) count) → Reads s p r
+      count ≡ numberAt 2 s (p + 9) → r ≡ Concrete (word s (p + 1)) (word s (p + 5)) (Fields (p + 11) count) → Reads s p r
   reads-fields {r} count n₃ n₄ n₀ n₁ c e = rw e (record {
     formed = omega (arith, fields-room n₃ n₄ n₀ n₁ .0);
     is =

@@ -1,5 +1,4 @@
 pub mod Clash
-pub mod Numbers
 pub mod Fields
 pub mod View
 pub mod Ends

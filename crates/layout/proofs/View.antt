@@ -13,9 +13,9 @@ use borrow.Author.Tests.{eqb-true, eqb-false, ltb-false}
 use Rattle.definitions.proofs.Choice.{decide}
 use Rattle.definitions.specs.Stream.{Read, broken, read, _then_}
 use Rattle.definitions.specs.Table.{Components, scalar, elements, fields, TypeLayout, concrete, handle, failed, readComponents, readLayout}
-use Rattle.records.specs.Words.{word}
-use Rattle.layout.specs.Bytes.{pair, fieldsAt}
-use Rattle.layout.proofs.Numbers.{four-then, two-then}
+use Rattle.records.specs.Words.{numberAt, word}
+use Rattle.records.proofs.Numbers.{number-then}
+use Rattle.layout.specs.Bytes.{fieldsAt}
 use Rattle.layout.proofs.Fields.{fields-then}
 
 -- a record of each kind, with what makes it whole
@@ -26,8 +26,8 @@ pub data View (s : List ℕ) (p : ℕ) : Read TypeLayout → Type 0 where
   is-scalar : p + 9 ≤ length s → getD s p 0 ≡ 0x20 → View s p (read (concrete (word s (p + 1)) (word s (p + 5)) scalar) (drop (p + 9) s))
   is-elements : p + 21 ≤ length s → getD s p 0 ≡ 0x21 → 0 < word s (p + 9) →
       View s p (read (concrete (word s (p + 1)) (word s (p + 5)) (elements (word s (p + 9)) (word s (p + 13)) (word s (p + 17)))) (drop (p + 21) s))
-  is-fields : p + (11 + pair s (p + 9) * 8) ≤ length s → getD s p 0 ≡ 0x22 → pair s (p + 9) ≤ 64 →
-      View s p (read (concrete (word s (p + 1)) (word s (p + 5)) (fields (fieldsAt s (p + 11) (pair s (p + 9))))) (drop (p + (11 + pair s (p + 9) * 8)) s))
+  is-fields : p + (11 + numberAt 2 s (p + 9) * 8) ≤ length s → getD s p 0 ≡ 0x22 → numberAt 2 s (p + 9) ≤ 64 →
+      View s p (read (concrete (word s (p + 1)) (word s (p + 5)) (fields (fieldsAt s (p + 11) (numberAt 2 s (p + 9))))) (drop (p + (11 + numberAt 2 s (p + 9) * 8)) s))
 
 module _ (s : List ℕ) (p : ℕ) where
   -- behind its kind, its size and its dynamic stride a record has its components
@@ -40,18 +40,18 @@ module _ (s : List ℕ) (p : ℕ) where
       decide Behind (eqb c 0x20) (λ e. is-scalar l (eqb-true c 0x20 e)) λ n₀.
       decide Behind (eqb c 0x21)
       (λ e.
-      four-then Behind s (p + 9) (p + 13) _ l no-record (omega arith) λ l₁.
-      four-then Behind s (p + 13) (p + 17) _ l₁ no-record (omega arith) λ l₂.
-      four-then Behind s (p + 17) (p + 21) _ l₂ no-record (omega arith) λ l₃.
+      number-then Behind 4 s (p + 9) (p + 13) _ l no-record (omega arith) λ l₁.
+      number-then Behind 4 s (p + 13) (p + 17) _ l₁ no-record (omega arith) λ l₂.
+      number-then Behind 4 s (p + 17) (p + 21) _ l₂ no-record (omega arith) λ l₃.
       decide Behind (eqb (word s (p + 9)) 0) (λ z. no-record) λ nz.
       let w : word s (p + 9) ≡ 0 → ⊥ = eqb-false (word s (p + 9)) 0 nz in
       is-elements l₃ (eqb-true c 0x21 e) (omega arith)) λ n₁.
       decide Behind (eqb c 0x22)
       (λ e.
-      two-then Behind s (p + 9) (p + 11) _ l no-record (omega arith) λ l₁.
-      decide Behind (ltb 64 (pair s (p + 9))) (λ m. no-record) λ f.
-      fields-then Behind s (pair s (p + 9)) (p + 11) (p + (11 + pair s (p + 9) * 8)) _ (omega arith) l₁ no-record λ l₂.
-      is-fields l₂ (eqb-true c 0x22 e) (ltb-false 64 (pair s (p + 9)) f))
+      number-then Behind 2 s (p + 9) (p + 11) _ l no-record (omega arith) λ l₁.
+      decide Behind (ltb 64 (numberAt 2 s (p + 9))) (λ m. no-record) λ f.
+      fields-then Behind s (numberAt 2 s (p + 9)) (p + 11) (p + (11 + numberAt 2 s (p + 9) * 8)) _ (omega arith) l₁ no-record λ l₂.
+      is-fields l₂ (eqb-true c 0x22 e) (ltb-false 64 (numberAt 2 s (p + 9)) f))
       λ n₂. no-record
 
   pub view : View s p (readLayout (drop p s))
@@ -64,8 +64,8 @@ module _ (s : List ℕ) (p : ℕ) where
             rw (drop-cons s p 0 v, ← z)
             (decide (View s p) (eqb c 0x23) (λ e. is-handle (omega arith) (eqb-true c 0x23 e)) λ n₃.
             decide (View s p) (eqb c 0x24) (λ e. is-failed (omega arith) (eqb-true c 0x24 e)) λ n₄.
-            four-then (View s p) s (p + 1) (p + 5) _ (omega arith) no-record (omega arith) λ l₁.
-            four-then (View s p) s (p + 5) (p + 9) _ l₁ no-record (omega arith) λ l₂.
+            number-then (View s p) 4 s (p + 1) (p + 5) _ (omega arith) no-record (omega arith) λ l₁.
+            number-then (View s p) 4 s (p + 5) (p + 9) _ l₁ no-record (omega arith) λ l₂.
             components-view l₂)
       ]
 
@@ -76,7 +76,7 @@ module _ (s : List ℕ) (p : ℕ) where
       (p + 1 ≤ length s → getD s p 0 ≡ 0x24 → ⊥) →
       (p + 9 ≤ length s → getD s p 0 ≡ 0x20 → ⊥) →
       (p + 21 ≤ length s → getD s p 0 ≡ 0x21 → 0 < word s (p + 9) → ⊥) →
-      (p + (11 + pair s (p + 9) * 8) ≤ length s → getD s p 0 ≡ 0x22 → pair s (p + 9) ≤ 64 → ⊥) →
+      (p + (11 + numberAt 2 s (p + 9) * 8) ≤ length s → getD s p 0 ≡ 0x22 → numberAt 2 s (p + 9) ≤ 64 → ⊥) →
       readLayout (drop p s) ≡ broken
   refused h f c e fs = go view
     where
@@ -94,8 +94,8 @@ module _ (s : List ℕ) (p : ℕ) where
       (p + 9 ≤ length s → getD s p 0 ≡ 0x20 → Q (concrete (word s (p + 1)) (word s (p + 5)) scalar)) →
       (p + 21 ≤ length s → getD s p 0 ≡ 0x21 → 0 < word s (p + 9) →
       Q (concrete (word s (p + 1)) (word s (p + 5)) (elements (word s (p + 9)) (word s (p + 13)) (word s (p + 17))))) →
-      (p + (11 + pair s (p + 9) * 8) ≤ length s → getD s p 0 ≡ 0x22 → pair s (p + 9) ≤ 64 →
-      Q (concrete (word s (p + 1)) (word s (p + 5)) (fields (fieldsAt s (p + 11) (pair s (p + 9)))))) →
+      (p + (11 + numberAt 2 s (p + 9) * 8) ≤ length s → getD s p 0 ≡ 0x22 → numberAt 2 s (p + 9) ≤ 64 →
+      Q (concrete (word s (p + 1)) (word s (p + 5)) (fields (fieldsAt s (p + 11) (numberAt 2 s (p + 9)))))) →
       (l : TypeLayout) (rest : List ℕ) → readLayout (drop p s) ≡ read l rest → Q l
   each-kind Q h f c e fs l rest is = go (rw is at view)
     where

@@ -1,14 +1,12 @@
--- Numbers of two bytes and fields, at any place of a list of bytes.
+-- How many records the bytes of a table say that they are, and the fields at any place of them.
 -- Assumes nothing.
-use Prim.Native.Nat.{ℕ, zero, suc, _+_, _*_}
+use Prim.Native.Nat.{ℕ, zero, suc, _+_}
 use mathlib.Core.List.{List, [], _∷_}
-use lib.ListN.{getD}
 use Rattle.definitions.specs.Table.{Field}
-use Rattle.records.specs.Words.{word}
+use Rattle.records.specs.Words.{numberAt, word}
 
--- the number in the two bytes from byte i on
-unfoldable pub pair : List ℕ → ℕ → ℕ
-pair s i = getD s i 0 + getD s (i + 1) 0 * 256
+abbrev pub recordCount : List ℕ → ℕ
+recordCount s = numberAt 2 s 0
 
 -- so many fields, 8 bytes each, from byte i on
 abbrev pub fieldsAt : List ℕ → ℕ → ℕ → List Field

@@ -9,7 +9,7 @@ use lib.ListN.{length, getD, take, drop}
 use Rattle.definitions.specs.Limits.{recordLimit}
 use Rattle.definitions.specs.Stream.{read}
 use Rattle.definitions.specs.Table.{Table, Setting, TypeLayout as Layout, layoutOf, isConcrete, readLayout, fieldsAdmitted, admitted, tableOf}
-use Rattle.layout.specs.Bytes.{pair, fieldsAt}
+use Rattle.layout.specs.Bytes.{recordCount, fieldsAt}
 use Rattle.layout.specs.Values.{layoutIn, Formed}
 use Rattle.layout.specs.declared.Records.{Records}
 use Rattle.layout.specs.declared.TypeLayout.{TypeLayout}
@@ -73,7 +73,7 @@ pub record Admitted (s places : List ℕ) (n at : ℕ) (r : Bool) : Type 0 where
 
 -- there is a place for each record that s says it has, unless it says more than a table may have
 abbrev pub Room : List ℕ → List ℕ → Type 0
-Room s places = pair s 0 ≤ recordLimit → pair s 0 ≤ length places
+Room s places = recordCount s ≤ recordLimit → recordCount s ≤ length places
 
 pub record Found (s places : List ℕ) (n : ℕ) : Type 0 where
   pub table : Table

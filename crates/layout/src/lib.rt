@@ -7,12 +7,13 @@ ghost use Rattle.records.specs.Words.{word};
 ghost use Rattle.definitions.specs.Table.{isConcrete, fixedSize, isDynamic};
 ghost use Rattle.definitions.specs.Containment.{endOf, atLength, elementSize};
 ghost use Rattle.qptr.specs.Values.{sizeOf};
-ghost use Rattle.layout.specs.Bytes.{pair};
+ghost use Rattle.layout.specs.Bytes.{recordCount};
 ghost use Rattle.layout.specs.Values.{Whole, Reads, Ends};
 ghost use Rattle.layout.specs.Places.{Room, Accepted, InTable, LayoutIs, Says, Standing, Earlier, FieldsAdmitted, Admitted};
 ghost use Rattle.layout.specs.Containing.{sizeIn, InElements, Contains, FieldsInTable, InFields, Finds};
 use qptr::MaxSize;
 use records::get32;
+use records::number;
 
 // How many records a table may have, and how many fields one of them.
 pub const RECORDS: usize = 1024;
@@ -34,6 +35,9 @@ const FIELD_LIST: u8 = 0x22;
 const HANDLE: u8 = 0x23;
 
 const FAILED: u8 = 0x24;
+
+// The bytes of a count, of records or of fields.
+const COUNT: usize = 2;
 
 // The last number of 32 bits.
 const MAX: u32 = 4294967295;
@@ -73,14 +77,6 @@ pub enum RecordEnd {
 pub struct Records {
     pub ok: bool,
     pub count: usize,
-}
-
-// The number in two bytes, the lowest first.
-pub fn get16(s: &[u8], i: usize) -> usize
-    requires { ⌜ i + 2 ≤ length (now s) ⌝ }
-    ensures { λ r. ⌜ r ≡ pair (now (s .entry)) i ⌝ }
-{
-    s[i] as usize + s[i + 1] as usize * 256
 }
 
 fn field_at(s: &[u8], at: usize) -> Field
@@ -130,7 +126,7 @@ fn layout_at(s: &[u8], at: usize) -> TypeLayout
     }
     let components = Components::Fields {
         at: at + 11,
-        count: get16(s, at + 9),
+        count: number(s, at + 9, COUNT) as usize,
     };
     concrete_at(s, at, components)
 }
@@ -198,7 +194,7 @@ fn fields_end(s: &[u8], at: usize) -> RecordEnd
     if left < 11 {
         return RecordEnd::Broken;
     }
-    let count = get16(s, at + 9);
+    let count = number(s, at + 9, COUNT) as usize;
     if FIELDS < count {
         return RecordEnd::Broken;
     }
@@ -306,12 +302,12 @@ const REFUSED: Records = Records {
 
 // Does a table say that it has few records?
 pub fn has_few(s: &[u8]) -> bool
-    ensures { λ r. ⌜ (r ≡ true → pair (now (s .entry)) 0 ≤ 32) ⌝ }
+    ensures { λ r. ⌜ (r ≡ true → recordCount (now (s .entry)) ≤ 32) ⌝ }
 {
     if s.len() < 2 {
         return false;
     }
-    get16(s, 0) <= FEW
+    number(s, 0, COUNT) as usize <= FEW
 }
 
 // Is this a layout table? Where each record begins is kept in `places`, for `layout_of` and all that rests on it. A table that
@@ -323,7 +319,7 @@ pub fn accept(s: &[u8], places: &mut [u32]) -> Records
     if s.len() < 2 {
         return REFUSED;
     }
-    let count = get16(s, 0);
+    let count = number(s, 0, COUNT) as usize;
     if RECORDS < count {
         return REFUSED;
     }

@@ -1,10 +1,10 @@
 // Sizes, commands and memory nodes: the values of the source's `qptr/mod.rs` and `qptr/shapes.rs`.
 ghost use mathlib.Core.Path.{_≡_};
 ghost use mathlib.Core.Bool.{true, false};
-ghost use Rattle.definitions.specs.Usage.{Usage, UNUSED, unused, leaf, map, array, Entries, count};
+ghost use Rattle.definitions.specs.Usage.{Usage, unused, leaf, map, array, Entries, count};
 ghost use Rattle.definitions.specs.Command.{commandAt};
 ghost use Rattle.definitions.specs.Place.{_<ˢ_};
-ghost use Rattle.qptr.specs.Values.{sizeOf, rowOf, Stands, Receives};
+ghost use Rattle.qptr.specs.Values.{sizeOf, rowOf, partOf, partBy, Stands, Receives};
 
 // The source's `max_size`: `Some` is Fixed, `None` is Dynamic.
 pub enum MaxSize {
@@ -38,7 +38,7 @@ pub struct Command {
 const COMMANDS: [Command; 12] = [
     // 00 Unused
     Command {
-        size: 5,
+        size: 5, // flag and number
         argument: 0,
         strictness: 0,
     },
@@ -170,13 +170,13 @@ impl Node {
         }
     }
 
-    pub fn offset_base(size: MaxSize, entries: u16) -> Node
+    pub fn offset_base(size: MaxSize, entries: u32) -> Node
         ensures { λ r. ⌜ ((es : Entries) → count es ≡ entries → Stands r (map (sizeOf size) es)) ⌝ }
     {
         Node {
             command: 0x03,
             size,
-            argument: entries as u32,
+            argument: entries,
         }
     }
 
@@ -190,11 +190,18 @@ impl Node {
         }
     }
 
-    // The constant as a value, so that a contract says what it is.
-    pub fn placeholder() -> Node
-        ensures { λ r. ⌜ Stands r UNUSED ⌝ }
+    // The node with this command and these operands. An Unused has no argument. The placeholder stands for a command that no node has.
+    pub fn of(command: u8, size: MaxSize, argument: u32) -> Node
+        ensures { λ r. ⌜ partOf r ≡ partBy command (sizeOf size) argument ⌝ }
     {
-        Node::UNUSED
+        match command {
+            0x00 => Node::unused(size),
+            0x01 => Node::strictly_typed(size, argument),
+            0x02 => Node::direct_access(size, argument),
+            0x03 => Node::offset_base(size, argument),
+            0x04 => Node::dyn_offset_base(size, argument),
+            _ => Node::UNUSED,
+        }
     }
 }
 

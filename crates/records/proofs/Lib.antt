@@ -1,4 +1,5 @@
-pub mod Words
+pub mod Numbers
+pub mod Widths
 pub mod Usages
 pub mod Parts
 pub mod Writing

@@ -8,7 +8,7 @@ use lib.ListN.{length, take, drop, getD, List·getD-append}
 use lib.Seq.{getD-take, getD-drop, getD-append-add, length-take-le}
 use Rattle.records.specs.Words.{word}
 use Rattle.records.specs.Records.{Same}
-use Rattle.records.proofs.Words.{word-equal}
+use Rattle.records.proofs.Numbers.{number-equal}
 use Rattle.records.proofs.Usages.{holds-move, same-at}
 
 pub byte-at : (s : List ℕ) (i j : ℕ) → i ≡ j → getD s i 0 ≡ getD s j 0
@@ -16,10 +16,10 @@ byte-at s i j e = ap (λ (n : ℕ). getD s n 0) e
 
 pub same-bytes : (s s′ : List ℕ) (q q′ : ℕ) → ((k : ℕ) → k < 32 → getD s′ (q′ * 32 + k) 0 ≡ getD s (q * 32 + k) 0) → Same s q s′ q′
 same-bytes s s′ q q′ h =
-    let field : (w : ℕ) → w + 4 ≤ 32 → word s′ (q′ * 32 + w) ≡ word s (q * 32 + w) = λ w le. word-equal s s′ (q * 32 + w) (q′ * 32 + w) (λ k lt.
+    let field : (w : ℕ) → w + 4 ≤ 32 → word s′ (q′ * 32 + w) ≡ word s (q * 32 + w) = λ w le. number-equal 4 s s′ (q * 32 + w) (q′ * 32 + w) (λ k lt.
     byte-at s′ (q′ * 32 + w + k) (q′ * 32 + (w + k)) (omega arith) ∙ h (w + k) (omega arith) ∙ byte-at s (q * 32 + (w + k)) (q * 32 + w + k) (omega arith)) in
     record {
-      command = word-equal s s′ (q * 32) (q′ * 32) (λ k lt. h k (omega arith));
+      command = number-equal 4 s s′ (q * 32) (q′ * 32) (λ k lt. h k (omega arith));
       nodes = field 4 (omega arith);
       size = cc (field 8 (omega arith), field 12 (omega arith));
       argument = field 16 (omega arith);

@@ -6,7 +6,7 @@ use mathlib.Core.Bool.{true, false}
 use mathlib.Core.List.{List, _++_}
 use Rattle.definitions.specs.Usage.{leaf, map, array, none, entry, fixed, dynamic}
 use Rattle.definitions.specs.Stream.{bytes}
-use Rattle.records.specs.Words.{word}
+use Rattle.records.specs.Words.{numberAt}
 use Rattle.records.specs.Usages.{At}
 
 -- command, nodes, size, argument, offset and spare words
@@ -18,7 +18,7 @@ worked : List ℕ
 worked = row 3 4 0 0 0 0 ++ row 1 1 1 4 7 0 ++ row 4 2 1 520 260 16 ++ row 2 1 1 260 9 0
 
 stands : At (map dynamic (entry 0 (leaf (fixed 4) true 7) (entry 16 (array (fixed 520) 260 (leaf (fixed 260) false 9)) none))) worked 0 0
-unfolding row worked At word
+unfolding row worked At numberAt
 stands = (
   (0, record { command = refl; nodes = refl; size = refl; argument = refl; offset = refl }),
   (

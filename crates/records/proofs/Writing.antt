@@ -15,7 +15,7 @@ use Rattle.qptr.specs.declared.MaxSize.{MaxSize}
 use Rattle.qptr.specs.declared.MaxSize.the-variants.{Fixed, Dynamic}
 use Rattle.records.specs.Words.{word, put}
 use Rattle.records.specs.Records.{sizeFrom, commandIn, countIn, sizeIn, argumentIn, offsetIn, Same, Written, Sized, Counted, Shifted, Typed, Swapped, tagIn, pastIn, Marked}
-use Rattle.records.proofs.Words.{length-put, word-put, word-put-other}
+use Rattle.records.proofs.Numbers.{length-put, number-put, number-put-other}
 use Rattle.records.proofs.Usages.{holds-move}
 
 -- what a record's word x is that was n, once v is put as its word y
@@ -24,11 +24,11 @@ stored y v x n = if eqb x y then v else n
 
 module _ (s s′ : List ℕ) (q y v i : ℕ) (e : s′ ≡ put s i v) (place : i ≡ q * 32 + y * 4) (h : q * 32 + 32 ≤ length s) (inside : y < 8) (f : v < 4294967296) where
   other-word : (j : ℕ) → (i < j + 4 → j < i + 4 → ⊥) → word s′ j ≡ word s j
-  other-word j apart = rw e (word-put-other s i v j apart)
+  other-word j apart = rw e (number-put-other 4 4 s i v j apart)
 
   own-word : (x j : ℕ) → j ≡ q * 32 + x * 4 → word s′ j ≡ stored y v x (word s j)
   own-word x j at = decide (λ (n : ℕ). word s′ j ≡ n) (eqb x y)
-      (λ t. let there : j ≡ i = omega (arith, eqb-true x y t) in rw (e, there) (word-put s i v (omega arith) f))
+      (λ t. let there : j ≡ i = omega (arith, eqb-true x y t) in rw (e, there) (number-put 4 s i v (omega arith) f))
       (λ t. other-word j (λ a b. eqb-false x y t (omega arith)))
 
   word-written : Written s s′ q (stored y v 0 (commandIn s q)) (stored y v 1 (countIn s q))
@@ -70,7 +70,7 @@ module _ (s s′ : List ℕ) (q v : ℕ) where
   shifted e h f = word-written s s′ q 5 v (q * 32 + 20) e (omega arith) h (omega arith) f
 
 length-stored : (s s′ : List ℕ) (i v : ℕ) → s′ ≡ put s i v → length s′ ≡ length s
-length-stored s s′ i v e = ap length e ∙ length-put s i v
+length-stored s s′ i v e = ap length e ∙ length-put 4 s i v
 
 -- Several fields
 
@@ -129,11 +129,11 @@ worded {s} {s₁} {s₂} {s₃} {s₄} {q} {c} {n} {f} {z} e₁ e₂ e₃ e₄ e
 module _ (s s′ : List ℕ) (q y v i : ℕ) (e : s′ ≡ put s i v) (place : i ≡ q * 32 + y * 4) (spare : 6 ≤ y) (inside : y < 8) where
   spare-same : (k : ℕ) → Same s k s′ k
   spare-same k = record {
-    command = rw e (word-put-other s i v (k * 32) (omega arith));
-    nodes = rw e (word-put-other s i v (k * 32 + 4) (omega arith));
-    size = rw (e, word-put-other s i v (k * 32 + 8) (omega arith), word-put-other s i v (k * 32 + 12) (omega arith));
-    argument = rw e (word-put-other s i v (k * 32 + 16) (omega arith));
-    offset = rw e (word-put-other s i v (k * 32 + 20) (omega arith));
+    command = rw e (number-put-other 4 4 s i v (k * 32) (omega arith));
+    nodes = rw e (number-put-other 4 4 s i v (k * 32 + 4) (omega arith));
+    size = rw (e, number-put-other 4 4 s i v (k * 32 + 8) (omega arith), number-put-other 4 4 s i v (k * 32 + 12) (omega arith));
+    argument = rw e (number-put-other 4 4 s i v (k * 32 + 16) (omega arith));
+    offset = rw e (number-put-other 4 4 s i v (k * 32 + 20) (omega arith));
   }
 
 pub marked : (s s₁ s₂ : List ℕ) (q t p : ℕ) → s₁ ≡ put s (q * 32 + 24) t → s₂ ≡ put s₁ (q * 32 + 28) p → q * 32 + 32 ≤ length s → t < 4294967296 → p < 4294967296 → Marked s s₂ q t p
@@ -143,10 +143,10 @@ marked s s₁ s₂ q t p e₁ e₂ h ft fp =
     let l : length s₁ ≡ length s = length-stored s s₁ (q * 32 + 24) t e₁ in
     record {
       same = λ i. holds-move (B i) (A i);
-      tag = rw (e₂, word-put-other s₁ (q * 32 + 28) p (q * 32 + 24) (omega arith), e₁) (word-put s (q * 32 + 24) t (omega arith) ft);
-      past = rw e₂ (word-put s₁ (q * 32 + 28) p (omega arith) fp);
-      tags = λ i ne. rw (e₂, word-put-other s₁ (q * 32 + 28) p (i * 32 + 24) (omega arith), e₁) (word-put-other s (q * 32 + 24) t (i * 32 + 24) (omega arith));
-      pasts = λ i ne. rw (e₂, word-put-other s₁ (q * 32 + 28) p (i * 32 + 28) (omega arith), e₁) (word-put-other s (q * 32 + 24) t (i * 32 + 28) (omega arith));
+      tag = rw (e₂, number-put-other 4 4 s₁ (q * 32 + 28) p (q * 32 + 24) (omega arith), e₁) (number-put 4 s (q * 32 + 24) t (omega arith) ft);
+      past = rw e₂ (number-put 4 s₁ (q * 32 + 28) p (omega arith) fp);
+      tags = λ i ne. rw (e₂, number-put-other 4 4 s₁ (q * 32 + 28) p (i * 32 + 24) (omega arith), e₁) (number-put-other 4 4 s (q * 32 + 24) t (i * 32 + 24) (omega arith));
+      pasts = λ i ne. rw (e₂, number-put-other 4 4 s₁ (q * 32 + 28) p (i * 32 + 28) (omega arith), e₁) (number-put-other 4 4 s (q * 32 + 24) t (i * 32 + 28) (omega arith));
     }
 
 -- Two records

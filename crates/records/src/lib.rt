@@ -3,7 +3,7 @@ ghost use mathlib.Core.Path.{_≡_};
 ghost use Prim.Native.Nat.{_+_, _*_, _<_, _≤_};
 ghost use lib.ListN.{length};
 ghost use Rattle.qptr.specs.Values.{sizeOf};
-ghost use Rattle.records.specs.Words.{word, put, Copied};
+ghost use Rattle.records.specs.Words.{Width, numberAt, putAt, word, put, Copied};
 ghost use Rattle.records.specs.Records.{sizeFrom, commandIn, countIn, sizeIn, argumentIn, offsetIn, Moved, Exchanged, Sized, Counted, Shifted, Typed, Written, Raised, Swapped, Apart, tagIn, pastIn, Marked};
 use qptr::MaxSize;
 
@@ -35,6 +35,34 @@ pub fn put32(s: &mut [u8], i: usize, v: u32)
     s[i + 1] = (v1 % 256) as u8;
     s[i + 2] = (v2 % 256) as u8;
     s[i + 3] = (v3 % 256) as u8;
+}
+
+// The number in w bytes.
+pub fn number(s: &[u8], i: usize, w: usize) -> u32
+    requires { ⌜ Width w × (i + w ≤ length (now s)) ⌝ }
+    ensures { λ r. ⌜ r ≡ numberAt w (now (s .entry)) i ⌝ }
+{
+    if w == 4 {
+        return get32(s, i);
+    }
+    if w == 2 {
+        return wide(s[i]) + wide(s[i + 1]) * 256;
+    }
+    0
+}
+
+pub fn put_number(s: &mut [u8], i: usize, w: usize, v: u32)
+    requires { ⌜ Width w × (i + w ≤ length (now s)) ⌝ }
+    ensures { λ r. ⌜ now (s .exit) ≡ putAt w (now (s .entry)) i v ⌝ }
+{
+    if w == 4 {
+        put32(s, i, v);
+        return;
+    }
+    if w == 2 {
+        s[i] = (v % 256) as u8;
+        s[i + 1] = (v / 256 % 256) as u8;
+    }
 }
 
 // The parts of record q.

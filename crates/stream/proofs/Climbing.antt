@@ -1,7 +1,7 @@
 -- Offsets strictly ascend if each is above the one before: the entries that are left climb from the last offset on exactly if all climb.
 -- Assumes nothing.
 use Prim.Native.Nat.{ℕ, suc, _+_, _-_, _≤_, _<_}
-use mathlib.Core.Path.{_≡_, sym, ap, _∙_}
+use mathlib.Core.Path.{_≡_, refl, sym, ap, _∙_}
 use mathlib.Core.Bool.{true, false}
 use mathlib.Core.List.{List}
 use native.Mathlib.Omega.{arith}
@@ -14,8 +14,7 @@ use Rattle.records.specs.Words.{word}
 use Rattle.stream.specs.Walk.{each, climbs, Ascends, Skips}
 use Rattle.stream.specs.declared.Skipped.the-variants as skips
 use Rattle.stream.proofs.Then.{never, then-reads}
-use Rattle.records.proofs.Words.{word-number}
-use Rattle.stream.proofs.Places.{number-short}
+use Rattle.records.proofs.Numbers.{number-at, number-short}
 
 climbs-on : (p o : ℕ) (u : Usage) (es : Entries) → p ≤ o → climbs p (entry o u es) ≡ climbs (suc o) es
 unfolding if_then_else_
@@ -42,7 +41,7 @@ module _ (s : List ℕ) where
   first : (k at : ℕ) {es : Entries} {rest : List ℕ} → at + 4 ≤ length s → each (suc k) (drop at s) ≡ read es rest → First k at es rest
   unfolding each
   first k at h e =
-      let a = then-reads (readNode (drop (at + 4) s)) (rw (word-number s at h) at e) in
+      let a = then-reads (readNode (drop (at + 4) s)) (rw (number-at 4 s at (at + 4) refl h) at e) in
       let b = then-reads (each k (a .1)) (a .3) in
       record { u = a .0; bs = a .1; others = b .0; node = a .2; more = cc; all = cc }
 

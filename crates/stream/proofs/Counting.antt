@@ -11,7 +11,8 @@ use Rattle.definitions.specs.Limits.{max32}
 use Rattle.definitions.specs.Usage.{Usage, nodes}
 use Rattle.definitions.specs.Stream.{Read, broken, read, _then_, readNode}
 use Rattle.qptr.specs.declared.Node.{Node}
-use Rattle.stream.specs.Head.{head, partOf, PartAt}
+use Rattle.qptr.specs.Values.{partOf}
+use Rattle.stream.specs.Head.{head, PartAt}
 use Rattle.stream.specs.Found.{typeBound, NodeAt}
 use Rattle.stream.specs.Walk.{Sum, sum, pending, ahead, ownBound, Goes, Orders}
 use Rattle.stream.specs.declared.Next.{Next}

@@ -1,6 +1,6 @@
 -- The first byte says what follows, in the code and in the definitions by the same tests.
 -- Assumes nothing.
-use Prim.Native.Nat.{ℕ, suc, _-_, _≤_, _<_}
+use Prim.Native.Nat.{ℕ, suc, _+_, _-_, _≤_, _<_}
 use mathlib.Core.Path.{_≡_, refl, sym}
 use mathlib.Core.List.{List, [], _∷_}
 use mathlib.Core.Option.{none as nothing}
@@ -12,9 +12,10 @@ use Rattle.definitions.specs.If.{if_then_else_}
 use Rattle.definitions.specs.Usage.{nodes, nodesOf, allNodes, buffer, memory, topNodes}
 use Rattle.definitions.specs.Command.{argumentWidth}
 use Rattle.definitions.specs.Stream.{read, _then_, number, readNode, readNodes, readCounted, whole, memoryOf, topOf, listOf}
+use Rattle.records.specs.Words.{numberAt}
+use Rattle.records.proofs.Numbers.{number-at, number-short}
 use Rattle.stream.specs.Found.{typeBound, topBound, boundOf, allBound, opaqueOf, told}
 use Rattle.stream.proofs.Then.{then-then}
-use Rattle.stream.proofs.Places.{number-short}
 use Rattle.stream.proofs.Wholes.{told-made}
 
 pub nothing-first : (s : List ℕ) → length s ≡ 0 → getD s 0 0 ≡ 0
@@ -76,12 +77,16 @@ module _ {s : List ℕ} {w : ℕ} (begun : Begun s w) where
   pub list-short : length s - 1 < w → listOf s ≡ nothing
   list-short short = rw (list-is s (begun .command), ← begun .width, number-short w (drop 1 s) (rw length-drop short))
 
-  module _ {n : ℕ} {rest : List ℕ} (count : number w (drop 1 s) ≡ read n rest) where
-    pub list-zero : n ≡ 0 → listOf s ≡ nothing
-    list-zero e = rw (list-is s (begun .command), ← begun .width, count, e)
+  module _ {n : ℕ} (long : 1 + w ≤ length s) (count : n ≡ numberAt w s 1) where
+    list-by : listOf s ≡ whole (readCounted n (drop (1 + w) s))
+    list-by = rw (list-is s (begun .command), ← begun .width, number-at w s 1 (1 + w) refl long, count)
 
-    pub list-nodes : (n ≡ 0 → ⊥) → told allNodes allBound (listOf s) ≡ told nodesOf boundOf (whole (readNodes n rest))
+    pub list-zero : n ≡ 0 → listOf s ≡ nothing
+    list-zero e = rw (list-by, e)
+
+    pub list-nodes : (n ≡ 0 → ⊥) → told allNodes allBound (listOf s) ≡ told nodesOf boundOf (whole (readNodes n (drop (1 + w) s)))
     list-nodes not =
         let is : n ≡ suc (n - 1) = omega arith in
-        rw (list-is s (begun .command), ← begun .width, count, is, counted (n - 1) rest)
+        let rest = drop (1 + w) s in
+        rw (list-by, is, counted (n - 1) rest)
         (sym (told-made (λ ns. ns .first ∷ ns .others) nodesOf boundOf (readCounted (suc (n - 1)) rest)))

@@ -1,7 +1,7 @@
 -- Behind an own part comes an element, an entry or nothing: an array leaves a node open, and else only entries are owed.
 -- Assumes nothing.
 use Prim.Native.Nat.{ℕ, suc, _+_, _-_, _/_, _≤_, _<_}
-use mathlib.Core.Path.{_≡_, ap, _∙_}
+use mathlib.Core.Path.{_≡_, refl, ap, _∙_}
 use mathlib.Core.List.{List}
 use native.Mathlib.Omega.{arith}
 use borrow.Author.Tests.{eq-eqb, ne-eqb}
@@ -10,7 +10,7 @@ use Rattle.definitions.specs.If.{if_then_else_}
 use Rattle.definitions.specs.Command.{Head}
 use Rattle.stream.specs.Walk.{owing, entriesOf, behind, Goes}
 use Rattle.stream.specs.declared.Next.the-variants as nexts
-use Rattle.records.proofs.Words.{word-number}
+use Rattle.records.proofs.Numbers.{number-at}
 use Rattle.stream.proofs.Owing.{owing-none, owing-entry, owing-short}
 
 module _ (s : List ℕ) (h : Head) (end owed : ℕ) (within : end ≤ length s) where
@@ -34,6 +34,6 @@ module _ (s : List ℕ) (h : Head) (end owed : ℕ) (within : end ≤ length s) 
     goes-entry fit some =
         let more : x ≡ suc (x - 1) = omega arith in
         record {
-          same = λ n t. else-owing n t ∙ ap (λ k. owing n t k (drop end s)) more ∙ owing-entry n t (x - 1) (drop end s) _ _ (word-number s end (omega arith));
+          same = λ n t. else-owing n t ∙ ap (λ k. owing n t k (drop end s)) more ∙ owing-entry n t (x - 1) (drop end s) _ _ (number-at 4 s end (end + 4) refl (omega arith));
           within = (omega arith, omega arith, omega arith);
         }

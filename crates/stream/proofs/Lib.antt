@@ -1,14 +1,12 @@
 pub mod Then
 pub mod Heads
 pub mod Places
-pub mod Widths
 pub mod Parts
 pub mod Deciding
 pub mod Each
 pub mod Owing
 pub mod Stepping
 pub mod Going
-pub mod Outlining
 pub mod Skipping
 pub mod Climbing
 pub mod Counting

@@ -1,50 +1,93 @@
--- An own part at a place of the bytes is read piece by piece, and is broken where one of the pieces is.
+-- An own part at a place of the bytes is read piece by piece, in the widths of its command's row, and is broken where a piece is. Its
+-- command, its argument and its end do not hang on its size: that only says whether it is read.
 -- Assumes nothing.
 use Prim.Native.Nat.{ℕ, _+_, _-_, _≤_, _<_}
-use mathlib.Core.Path.{_≡_, refl}
-use mathlib.Core.List.{List, [], _∷_}
+use mathlib.Core.Path.{_≡_, refl, ap}
+use mathlib.Core.List.{List}
+use native.Mathlib.Decide.{decLt}
 use native.Mathlib.Omega.{arith}
+use borrow.Author.Tests.{lt-ltb}
 use lib.ListN.{length, getD, drop, length-drop}
+use lib.Seq.{drop-length}
+use Rattle.definitions.specs.If.{if_then_else_}
 use Rattle.definitions.specs.Usage.{Size}
-use Rattle.definitions.specs.Command.{argumentWidth}
+use Rattle.definitions.specs.Command.{Head, commandAt, sizeWidth, argumentWidth}
 use Rattle.definitions.specs.Stream.{broken, read, _then_, number, readSize}
+use Rattle.definitions.proofs.Choice.{either}
+use Rattle.definitions.proofs.Reading.{Reads, stops, gives, reads-any, reads-then}
+use Rattle.qptr.specs.Values.{rowOf}
+use Rattle.qptr.specs.declared.Command.{Command}
+use Rattle.records.specs.Words.{numberAt}
+use Rattle.records.proofs.Numbers.{number-at, number-short}
 use Rattle.stream.specs.Head.{own, head}
-use Rattle.stream.proofs.Places.{number-short, byte-at}
+use Rattle.stream.proofs.Places.{byte-at, size-short, size-end}
+use Rattle.stream.proofs.Then.{then-broken}
 
-size-short : (bs : List ℕ) → length bs < 5 → readSize bs ≡ broken
-size-short [] h = refl
-size-short (flag ∷ bs) h = rw (number-short 4 bs (omega arith))
-
-few : (bs : List ℕ) → length bs < 6 → head bs ≡ broken
+pub head-none : (s : List ℕ) (at : ℕ) → at ≡ length s → head (drop at s) ≡ broken
 unfolding head
-few [] h = refl
-few (c ∷ bs) h = rw (size-short bs (omega arith))
+head-none s at e = rw (e, drop-length)
 
-pub head-at : (s : List ℕ) (at : ℕ) → at < length s
-    → head (drop at s) ≡ readSize (drop (at + 1) s) then λ z bs. number (argumentWidth (getD s at 0)) bs then λ n rest. own (getD s at 0) z n rest
-unfolding head
-head-at s at h = rw (byte-at s at h)
+own-high : (c : ℕ) (z : Size) (n : ℕ) (rest : List ℕ) → 0x04 < c → own c z n rest ≡ broken
+unfolding if_then_else_
+own-high c z n rest high = rw (lt-ltb _ _ high)
 
-pub head-few : (s : List ℕ) (at : ℕ) → length s - at < 6 → head (drop at s) ≡ broken
-head-few s at h = few (drop at s) (rw length-drop h)
+own-told : (c : ℕ) (z : Size) (n : ℕ) (rest : List ℕ) → Reads (λ h r. (h .command ≡ c) × (h .argument ≡ n) × (r ≡ rest)) (own c z n rest)
+own-told c z n rest =
+    either (Reads _) _ stops
+    (either (Reads _) _ (either (Reads _) _ stops (gives _ rest (refl, refl, refl))) (gives _ rest (refl, refl, refl)))
 
-pub head-sizeless : (s : List ℕ) (at : ℕ) → at < length s → readSize (drop (at + 1) s) ≡ broken → head (drop at s) ≡ broken
-head-sizeless s at h e = rw (head-at s at h, e)
+module _ (s : List ℕ) (at : ℕ) (some : at < length s) where
+  abbrev c : ℕ
+  c = getD s at 0
 
--- the size is read, and the argument has w bytes
-pub record Sized (s : List ℕ) (at : ℕ) (z : Size) (w : ℕ) : Type 0 where
-  pub long : at + 6 ≤ length s
-  pub size : readSize (drop (at + 1) s) ≡ read z (drop (at + 1 + 5) s)
-  pub width : w ≡ argumentWidth (getD s at 0)
+  head-at : head (drop at s) ≡ readSize (sizeWidth c) (drop (at + 1) s) then λ z bs. number (argumentWidth c) bs then λ n rest. own c z n rest
+  unfolding head
+  head-at = rw (byte-at s at some)
 
-module _ {s : List ℕ} {at : ℕ} {z : Size} {w : ℕ} (sized : Sized s at z w) where
-  behind-size : head (drop at s) ≡ number w (drop (at + 6) s) then λ n rest. own (getD s at 0) z n rest
-  behind-size =
-      let end : at + 1 + 5 ≡ at + 6 = omega arith in
-      rw (head-at s at (omega (arith, sized .long)), sized .size, end, ← sized .width)
+  pub head-high : 0x04 < c → head (drop at s) ≡ broken
+  head-high high =
+      rw head-at
+      (then-broken (reads-any (readSize (sizeWidth c) (drop (at + 1) s))) λ z bs _.
+      then-broken (reads-any (number (argumentWidth c) bs)) λ n rest _.
+      own-high c z n rest high)
 
-  pub head-short : length s - at - 6 < w → head (drop at s) ≡ broken
-  head-short short = rw (behind-size, number-short w (drop (at + 6) s) (rw length-drop (omega arith)))
+  module _ (row : Command) (is : rowOf row ≡ commandAt c) where
+    head-by : head (drop at s) ≡ readSize (row .size) (drop (at + 1) s) then λ z bs. number (row .argument) bs then λ n rest. own c z n rest
+    head-by =
+        let size : row .size ≡ sizeWidth c = ap (λ r. r .size) is in
+        let argument : row .argument ≡ argumentWidth c = ap (λ r. r .argument) is in
+        rw (head-at, ← size, ← argument)
 
-  pub head-whole : {n : ℕ} {rest : List ℕ} → number w (drop (at + 6) s) ≡ read n rest → head (drop at s) ≡ own (getD s at 0) z n rest
-  head-whole argument = rw (behind-size, argument)
+    pub head-cut : length s - at < 1 + row .size + row .argument → head (drop at s) ≡ broken
+    head-cut short =
+        rw head-by
+        (elim (decLt (length s) (at + 1 + row .size)) [
+          | yes cut ↦ rw (size-short (row .size) (drop (at + 1) s) (rw length-drop (omega arith)))
+          | no long ↦
+              then-broken (size-end (row .size) s (at + 1) (omega arith)) λ z bs end.
+              rw (end, number-short (row .argument) (drop (at + 1 + row .size) s) (rw length-drop (omega arith)))
+        ])
+
+    pub head-sizeless : readSize (row .size) (drop (at + 1) s) ≡ broken → head (drop at s) ≡ broken
+    head-sizeless e = rw (head-by, e)
+
+    module _ (long : 1 + row .size + row .argument ≤ length s - at) where
+      abbrev argument : ℕ
+      argument = numberAt (row .argument) s (at + (1 + row .size))
+
+      abbrev rest : List ℕ
+      rest = drop (at + (1 + row .size + row .argument)) s
+
+      argument-here : number (row .argument) (drop (at + 1 + row .size) s) ≡ read argument rest
+      argument-here =
+          let from : at + 1 + row .size ≡ at + (1 + row .size) = omega arith in
+          rw from (number-at (row .argument) s (at + (1 + row .size)) (at + (1 + row .size + row .argument)) (omega arith) (omega arith))
+
+      pub head-whole : {z : Size} → readSize (row .size) (drop (at + 1) s) ≡ read z (drop (at + 1 + row .size) s) → head (drop at s) ≡ own c z argument rest
+      head-whole sized = rw (head-by, sized, argument-here)
+
+      pub head-told : Reads (λ h r. (h .command ≡ c) × (h .argument ≡ argument) × (r ≡ rest)) (head (drop at s))
+      head-told =
+          rw head-by
+          (reads-then (size-end (row .size) s (at + 1) (omega arith)) λ z bs end.
+          rw (end, argument-here) (own-told c z argument rest))

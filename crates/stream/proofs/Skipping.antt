@@ -9,7 +9,8 @@ use Rattle.definitions.specs.Usage.{Usage, nodes}
 use Rattle.definitions.specs.Command.{Head}
 use Rattle.definitions.specs.Stream.{Read, broken, read, readNode}
 use Rattle.qptr.specs.declared.Node.{Node}
-use Rattle.stream.specs.Head.{head, partOf, OutlineAt}
+use Rattle.qptr.specs.Values.{partOf}
+use Rattle.stream.specs.Head.{head, OutlineAt}
 use Rattle.stream.specs.Found.{typeBound}
 use Rattle.stream.specs.Walk.{Sum, sum, pending, entriesOf, ownBound, behind, ahead, Goes, Skips}
 use Rattle.stream.specs.declared.Next.{Next}

@@ -11,6 +11,8 @@ use Rattle.definitions.specs.Usage.{opaque}
 use Rattle.definitions.specs.Command.{argumentWidth}
 use Rattle.definitions.specs.Stream.{Read, broken, read, _then_, number, whole}
 use Rattle.definitions.proofs.Reading.{Reads, stops, gives}
+use Rattle.records.specs.Words.{numberAt}
+use Rattle.records.proofs.Numbers.{number-at}
 use Rattle.stream.specs.Found.{opaqueOf, told}
 use Rattle.stream.proofs.Places.{number-takes}
 
@@ -42,5 +44,5 @@ module _ (s : List ℕ) (w : ℕ) (width : w ≡ argumentWidth 0x08) where
   opaque-not head not =
       rw (← width) (exactly w opaque (drop 1 s) (number-takes w (drop 1 s)) (rw length-drop (λ e. not (omega arith))))
 
-  pub opaque-is : (n : ℕ) → length s ≡ 1 + w → number w (drop 1 s) ≡ read n (drop (1 + w) s) → opaqueOf (drop 1 s) ≡ some (opaque n)
-  opaque-is n e p = rw (← width, p) (whole-all (opaque n) s (1 + w) (sym e))
+  pub opaque-is : (n : ℕ) → length s ≡ 1 + w → n ≡ numberAt w s 1 → opaqueOf (drop 1 s) ≡ some (opaque n)
+  opaque-is n e is = rw (← width, number-at w s 1 (1 + w) refl (omega arith), is) (whole-all (opaque (numberAt w s 1)) s (1 + w) (sym e))

@@ -1,6 +1,6 @@
 -- A node's own part as it is read: its command, its size and its argument, before anything that stands further down.
 -- Assumes nothing.
-use Prim.Native.Nat.{ℕ, _+_, _≤_}
+use Prim.Native.Nat.{ℕ, _+_, _≤_, _<_}
 use mathlib.Core.Path.{_≡_}
 use mathlib.Core.Bool.{Bool}
 use mathlib.Core.List.{List, [], _∷_}
@@ -8,18 +8,14 @@ use lib.Dec.{ltb, eqb}
 use lib.ListN.{length, drop}
 use Rattle.definitions.specs.If.{if_then_else_}
 use Rattle.definitions.specs.Usage.{Size, Usage}
-use Rattle.definitions.specs.Command.{Head, argumentWidth}
+use Rattle.definitions.specs.Command.{Head, sizeWidth, argumentWidth}
 use Rattle.definitions.specs.Stream.{Read, broken, read, _then_, number, readSize, body}
-use Rattle.qptr.specs.Values.{sizeOf}
+use Rattle.qptr.specs.Values.{sizeOf, partOf}
 use Rattle.qptr.specs.declared.Node.{Node}
 use Rattle.stream.specs.declared.SizeAt.{SizeAt}
 use Rattle.stream.specs.declared.SizeAt.the-variants as sizes
 use Rattle.stream.specs.declared.HeaderAt.{HeaderAt}
 use Rattle.stream.specs.declared.HeaderAt.the-variants as headers
-
--- the widths of operands: 4, 2 or else 0
-abbrev pub Wide : ℕ → Type 0
-Wide w = (w ≡ 4 → ⊥) → (w ≡ 2 → ⊥) → w ≡ 0
 
 -- nodes have commands up to 04, whose stride is not 0
 abbrev pub own : ℕ → Size → ℕ → List ℕ → Read Head
@@ -35,25 +31,21 @@ Known c n r = (z : Size) (rest : List ℕ) → own c z n rest ≡ (if r then rea
 -- the own part that the bytes begin with
 unfoldable pub head : List ℕ → Read Head
 head [] = broken
-head (c ∷ bs) = readSize bs then λ s bs₁. number (argumentWidth c) bs₁ then λ n rest. own c s n rest
+head (c ∷ bs) = readSize (sizeWidth c) bs then λ s bs₁. number (argumentWidth c) bs₁ then λ n rest. own c s n rest
 
 -- the node with this own part, of what follows it (`node-head`)
 abbrev pub below : (List ℕ → Read Usage) → Head → List ℕ → Read Usage
 below node h bs = body node (h .command) (h .size) (h .argument) bs
 
--- a node of the code, which has no children, as an own part
-abbrev pub partOf : Node → Head
-partOf n = record { command = n .command; size = sizeOf (n .size); argument = n .argument }
-
--- the size at a place of s, or that there is none
-abbrev pub SizeShows : List ℕ → ℕ → SizeAt → Type 0
-SizeShows s at (sizes.Size z) = readSize (drop at s) ≡ read (sizeOf z) (drop (at + 5) s)
-SizeShows s at sizes.Broken = readSize (drop at s) ≡ broken
+-- the size in w bytes at a place of s, or that there is none
+abbrev pub SizeShows : ℕ → List ℕ → ℕ → SizeAt → Type 0
+SizeShows w s at (sizes.Size z) = readSize w (drop at s) ≡ read (sizeOf z) (drop (at + w) s)
+SizeShows w s at sizes.Broken = readSize w (drop at s) ≡ broken
 
 -- the own part at a place of s
 pub record PartAt (s : List ℕ) (at : ℕ) (node : Node) (end : ℕ) : Type 0 where
   pub reads : head (drop at s) ≡ read (partOf node) (drop end s)
-  pub taken : at + 6 ≤ end
+  pub taken : at < end
   pub within : end ≤ length s
 
 -- the own part at a place of s, or that there is none
@@ -64,7 +56,7 @@ Shows s at headers.Broken = head (drop at s) ≡ broken
 -- the own part at a place of s, but for its size, if there is one: whether there is, is not said
 pub record OutlineAt (s : List ℕ) (at : ℕ) (node : Node) (end : ℕ) : Type 0 where
   pub same : (h : Head) (rest : List ℕ) → head (drop at s) ≡ read h rest → (h .command ≡ node .command) × (h .argument ≡ node .argument) × (rest ≡ drop end s)
-  pub taken : at + 6 ≤ end
+  pub taken : at < end
   pub within : end ≤ length s
 
 -- the same, or that there is none

@@ -1,18 +1,21 @@
 // Streams: which bytes are one. A stream may be longer and deeper than any stack, so nothing here recurses, and nothing is kept
 // for each level.
 ghost use mathlib.Core.Path.{_≡_};
-ghost use Prim.Native.Nat.{ℕ, _+_, _≤_, max};
+ghost use Prim.Native.Nat.{ℕ, _+_, _-_, _≤_, _<_, max};
 ghost use lib.ListN.{length, getD, drop};
 ghost use Rattle.definitions.specs.Limits.{max32};
 ghost use Rattle.definitions.specs.Usage.{nodes, nodesOf, topNodes, allNodes};
-ghost use Rattle.definitions.specs.Stream.{read, number, readNode, readNodes, whole, topOf, memoryOf, listOf};
-ghost use Rattle.stream.specs.Head.{Wide, Known, partOf, SizeShows, Shows, Outlines};
+ghost use Rattle.definitions.specs.Stream.{readNode, readNodes, whole, topOf, memoryOf, listOf};
+ghost use Rattle.qptr.specs.Values.{partOf};
+ghost use Rattle.records.specs.Words.{Width};
+ghost use Rattle.stream.specs.Head.{Known, SizeShows, Shows, Outlines};
 ghost use Rattle.stream.specs.Found.{typeBound, boundOf, topBound, allBound, opaqueOf, told, Spans};
 ghost use Rattle.stream.specs.Walk.{entriesOf, ownBound, Goes, Skips, Ascends, Orders};
 use qptr::Command;
 use qptr::MaxSize;
 use qptr::Node;
 use records::get32;
+use records::number;
 
 const UNUSED: u8 = 0x00;
 
@@ -54,7 +57,7 @@ pub enum HeaderAt {
     Broken,
 }
 
-// The size at a place, which takes five bytes.
+// The size at a place.
 enum SizeAt {
     Size(MaxSize),
     Broken,
@@ -73,28 +76,16 @@ enum Skipped {
     Broken,
 }
 
-// The number in `width` bytes, the lowest first: an operand has 0, 2 or 4.
-fn operand(s: &[u8], at: usize, width: u8) -> u32
-    requires { ⌜ Wide width ⌝ }
-    requires { ⌜ at + width ≤ length (now s) ⌝ }
-    ensures { λ r. ⌜ number width (drop at (now (s .entry))) ≡ read r (drop (at + width) (now (s .entry))) ⌝ }
+// The size in the `width` bytes from `at` on: flag 1 and a number, or flag 0 and the number 0. In no bytes there is none.
+fn size(s: &[u8], at: usize, width: usize) -> SizeAt
+    requires { ⌜ Width (width - 1) × (at + width ≤ length (now s)) ⌝ }
+    ensures { λ r. ⌜ SizeShows width (now (s .entry)) at r ⌝ }
 {
-    if width == 4 {
-        return get32(s, at);
+    if width == 0 {
+        return SizeAt::Broken;
     }
-    if width == 2 {
-        return s[at] as u32 + s[at + 1] as u32 * 256;
-    }
-    0
-}
-
-// The size at `at`: flag 1 and a number, or flag 0 and the number 0.
-fn size(s: &[u8], at: usize) -> SizeAt
-    requires { ⌜ at + 5 ≤ length (now s) ⌝ }
-    ensures { λ r. ⌜ SizeShows (now (s .entry)) at r ⌝ }
-{
     let flag = s[at];
-    let n = get32(s, at + 1);
+    let n = number(s, at + 1, width - 1);
     match flag {
         1 => SizeAt::Size(MaxSize::Fixed(n)),
         0 => {
@@ -127,29 +118,26 @@ pub fn header(s: &[u8], at: usize) -> HeaderAt
     ensures { λ r. ⌜ Shows (now (s .entry)) at r ⌝ }
 {
     let left = s.len() - at;
-    if left < 6 {
+    if left == 0 {
         return HeaderAt::Broken;
     }
-    let SizeAt::Size(size) = size(s, at + 1) else {
+    let command = s[at];
+    let row = Command::of(command);
+    let before = 1 + row.size as usize;
+    let width = before + row.argument as usize;
+    if left < width {
+        return HeaderAt::Broken;
+    }
+    let SizeAt::Size(size) = size(s, at + 1, row.size as usize) else {
         return HeaderAt::Broken;
     };
-    let command = s[at];
-    let width = Command::of(command).argument;
-    if left - 6 < width as usize {
-        return HeaderAt::Broken;
-    }
-    let argument = operand(s, at + 6, width);
+    let argument = number(s, at + before, row.argument as usize);
     if !known(command, argument) {
         return HeaderAt::Broken;
     }
-    let node = Node {
-        command,
-        size,
-        argument,
-    };
     HeaderAt::Header {
-        node,
-        end: at + 6 + width as usize,
+        node: Node::of(command, size, argument),
+        end: at + width,
     }
 }
 
@@ -200,33 +188,30 @@ fn past(s: &[u8], node: Node, end: usize, owed: usize) -> Next
 
 // The own part with this command at `at`, if there is one: its size and its stride are not looked at, so the size told is none.
 fn outlined(s: &[u8], at: usize, command: u8) -> HeaderAt
-    requires { ⌜ (at + 6 ≤ length (now s)) × (getD (now s) at 0 ≡ command) ⌝ }
+    requires { ⌜ (at < length (now s)) × (getD (now s) at 0 ≡ command) ⌝ }
     ensures { λ r. ⌜ Outlines (now (s .entry)) at r ⌝ }
 {
-    let width = Command::of(command).argument;
-    if s.len() - at - 6 < width as usize {
+    let row = Command::of(command);
+    let before = 1 + row.size as usize;
+    let width = before + row.argument as usize;
+    if s.len() - at < width {
         return HeaderAt::Broken;
     }
-    let argument = operand(s, at + 6, width);
-    let node = Node {
-        command,
-        size: MaxSize::Dynamic,
-        argument,
-    };
+    let argument = number(s, at + before, row.argument as usize);
     HeaderAt::Header {
-        node,
-        end: at + 6 + width as usize,
+        node: Node::of(command, MaxSize::Dynamic, argument),
+        end: at + width,
     }
 }
 
 // The own part at `at`, if there is one. It may be lean, because `skip` answers only for what is a node: whether it is one, `node`
 // looks at when it comes there. And it should be, because `skip` may pass a node many times. Each command has an arm of its own,
-// where its width is a constant, so that the processor foresees the next place and does not wait for this command and the table.
+// where its widths are constants, so that the processor foresees the next place and does not wait for this command and the table.
 fn outline(s: &[u8], at: usize) -> HeaderAt
     requires { ⌜ at ≤ length (now s) ⌝ }
     ensures { λ r. ⌜ Outlines (now (s .entry)) at r ⌝ }
 {
-    if s.len() - at < 6 {
+    if s.len() == at {
         return HeaderAt::Broken;
     }
     let command = s[at];
@@ -369,11 +354,11 @@ fn opaque(s: &[u8]) -> Found
     requires { ⌜ 1 ≤ length (now s) ⌝ }
     ensures { λ r. ⌜ r ≡ told topNodes topBound (opaqueOf (drop 1 (now (s .entry)))) ⌝ }
 {
-    let width = Command::of(OPAQUE).argument;
-    if s.len() != 1 + width as usize {
+    let width = Command::of(OPAQUE).argument as usize;
+    if s.len() != 1 + width {
         return Found::Broken;
     }
-    let ty = operand(s, 1, width);
+    let ty = number(s, 1, width);
     Found::Stream {
         nodes: 0,
         types: ty as u64 + 1,
@@ -449,13 +434,13 @@ pub fn list(s: &[u8]) -> Found
     if s[0] != LIST {
         return Found::Broken;
     }
-    let width = Command::of(LIST).argument;
-    if s.len() - 1 < width as usize {
+    let width = Command::of(LIST).argument as usize;
+    if s.len() - 1 < width {
         return Found::Broken;
     }
-    let count = operand(s, 1, width);
+    let count = number(s, 1, width);
     if count == 0 {
         return Found::Broken;
     }
-    several(s, 1 + width as usize, count)
+    several(s, 1 + width, count)
 }

@@ -10,7 +10,7 @@ use Rattle.definitions.specs.Usage.{Usage, leaf, fixed}
 use Rattle.definitions.specs.Stream.{bytes}
 use Rattle.definitions.specs.Table.{Setting, concrete, scalar, elements, tableOf}
 use Rattle.definitions.specs.Support.{supports, supportsIn}
-use Rattle.records.specs.Words.{word}
+use Rattle.records.specs.Words.{numberAt}
 use Rattle.records.specs.Usages.{At}
 use Rattle.layout.specs.Places.{Placed}
 use Rattle.support.specs.Known.{Askable}
@@ -46,7 +46,7 @@ stands (suc zero) l = record { kept = omega arith; rest = []; stands = refl; adm
 stands (suc (suc ty)) l = absurd (omega arith)
 
 askable : Askable table places 1 record-of-it 0
-unfolding table setting first second asked record-of-it tableOf if_then_else_ At word
+unfolding table setting first second asked record-of-it tableOf if_then_else_ At numberAt
 askable = record {
   type = record { setting = setting; known = record { read = refl; placed = stands }; below = omega arith };
   usage = record {

@@ -6,15 +6,19 @@ use mathlib.Core.List.{List, [], _∷_, _++_, append-assoc}
 use native.Mathlib.Omega.{arith}
 use lib.ListN.{length, getD, drop}
 use Rattle.definitions.specs.Usage.{Size, Usage, size}
-use Rattle.definitions.specs.Command.{headOf, argumentWidth}
+use Rattle.definitions.specs.Command.{Command, commandAt, headOf, sizeWidth, argumentWidth}
 use Rattle.definitions.specs.Stream.{bytes, writeSize, writeHead}
 use Rattle.definitions.proofs.Numbers.{bytes-length}
+use Rattle.records.specs.Words.{Width, numberAt}
 use Rattle.records.specs.Records.{Written}
-use Rattle.transfer.specs.Nodes.{Width, NumberIs, SizeIs, own, OwnAt}
+use Rattle.records.proofs.Numbers.{number-is}
+use Rattle.records.proofs.Widths.{argument-width}
+use Rattle.transfer.specs.Nodes.{SizeWidth, sizeAt, ownWidth, own, OwnAt}
 use Rattle.transfer.specs.Loading.{OwnReady, OwnLoaded}
 use Rattle.transfer.proofs.Commands.{head-size}
+use Rattle.transfer.proofs.Numbers.{size-is}
 use Rattle.transfer.proofs.Places.{first-at, past, inside}
-use Rattle.transfer.proofs.Widths.{size-length, own-length, argument-width}
+use Rattle.transfer.proofs.Widths.{size-length, own-length, size-width, size-fits}
 
 past-at : (s : List ℕ) (i j : ℕ) (xs ys : List ℕ) → i + length xs ≡ j → drop i s ≡ xs ++ ys → drop j s ≡ ys
 past-at s i j xs ys e d = rw (← e) (past s i xs ys d)
@@ -22,59 +26,63 @@ past-at s i j xs ys e d = rw (← e) (past s i xs ys d)
 record Parts (front o : ℕ) (u : Usage) (s : List ℕ) (at : ℕ) (rest : List ℕ) : Type 0 where
   offset : drop at s ≡ bytes front o ++ (writeHead (headOf u) ++ rest)
   command : getD s (at + front) 0 ≡ headOf u .command
-  size : drop (at + front + 1) s ≡ writeSize (headOf u .size) ++ (bytes (argumentWidth (headOf u .command)) (headOf u .argument) ++ rest)
-  argument : drop (at + front + 6) s ≡ bytes (argumentWidth (headOf u .command)) (headOf u .argument) ++ rest
-  behind : drop (at + front + 6 + argumentWidth (headOf u .command)) s ≡ rest
-  within : at + front + 6 + argumentWidth (headOf u .command) ≤ length s
+  size : drop (at + front + 1) s ≡ writeSize (sizeWidth (headOf u .command)) (headOf u .size) ++ (bytes (argumentWidth (headOf u .command)) (headOf u .argument) ++ rest)
+  argument : drop (at + front + 1 + sizeWidth (headOf u .command)) s ≡ bytes (argumentWidth (headOf u .command)) (headOf u .argument) ++ rest
+  behind : drop (at + front + 1 + sizeWidth (headOf u .command) + argumentWidth (headOf u .command)) s ≡ rest
+  within : at + front + ownWidth (headOf u .command) ≤ length s
 
 parts : {front o : ℕ} {u : Usage} {s : List ℕ} {at : ℕ} {rest : List ℕ} → OwnAt front o u s at rest → Parts front o u s at rest
 parts {front} {o} {u} {s} {at} {rest} A =
     let h = headOf u in
+    let v : ℕ = sizeWidth (h .command) in
     let w : ℕ = argumentWidth (h .command) in
     let tail : List ℕ = bytes w (h .argument) in
     let t₀ : drop at s ≡ bytes front o ++ (writeHead h ++ rest) = A .text ∙ append-assoc (bytes front o) (writeHead h) rest in
     let t₁ : drop (at + front) s ≡ writeHead h ++ rest = past-at s at (at + front) (bytes front o) (writeHead h ++ rest) (omega (arith, bytes-length front o)) t₀ in
-    let t₂ : drop (at + front + 1) s ≡ writeSize (h .size) ++ (tail ++ rest) =
-    past-at s (at + front) (at + front + 1) (h .command ∷ []) ((writeSize (h .size) ++ tail) ++ rest) refl t₁ ∙ append-assoc (writeSize (h .size)) tail rest in
-    let t₃ : drop (at + front + 6) s ≡ tail ++ rest =
-    past-at s (at + front + 1) (at + front + 6) (writeSize (h .size)) (tail ++ rest) (omega (arith, size-length (h .size))) t₂ in
+    let t₂ : drop (at + front + 1) s ≡ writeSize v (h .size) ++ (tail ++ rest) =
+    past-at s (at + front) (at + front + 1) (h .command ∷ []) ((writeSize v (h .size) ++ tail) ++ rest) refl t₁ ∙ append-assoc (writeSize v (h .size)) tail rest in
+    let t₃ : drop (at + front + 1 + v) s ≡ tail ++ rest =
+    past-at s (at + front + 1) (at + front + 1 + v) (writeSize v (h .size)) (tail ++ rest) (omega (arith, size-length v (h .size))) t₂ in
     record {
       offset = t₀;
       command = first-at s (at + front) (writeHead h ++ rest) t₁;
       size = t₂;
       argument = t₃;
-      behind = past-at s (at + front + 6) (at + front + 6 + w) tail rest (omega (arith, bytes-length w (h .argument))) t₃;
+      behind = past-at s (at + front + 1 + v) (at + front + 1 + v + w) tail rest (omega (arith, bytes-length w (h .argument))) t₃;
       within = omega (arith, inside s at (own front o u) rest (A .text) (omega (arith, own-length front o u)), own-length front o u);
     }
 
 module _ {s : List ℕ} {at front : ℕ} {work : List ℕ} {q : ℕ} (R : OwnReady s at front work q) where
-  pub head-inside : at + front + 6 ≤ length s
+  pub head-inside : at + front + 1 ≤ length s
   head-inside = omega (arith, parts (R .stands) .within)
 
-  pub own-inside : {w : ℕ} → w ≡ argumentWidth (getD s (at + front) 0) → Width w × (at + front + 6 + w ≤ length s)
-  own-inside e =
-      let P = parts (R .stands) in
-      let width = e ∙ ap argumentWidth (P .command) in
-      (rw width (argument-width (R .usage)), omega (arith, P .within))
+  module _ {row : Command} (e : row ≡ commandAt (getD s (at + front) 0)) where
+    pub own-inside : SizeWidth (row .size) × Width (row .argument) × (at + front + 1 + row .size + row .argument ≤ length s)
+    own-inside =
+        let P = parts (R .stands) in
+        let known : row ≡ commandAt (headOf (R .usage) .command) = e ∙ ap commandAt (P .command) in
+        rw known (size-width (R .usage), argument-width (headOf (R .usage) .command), omega (arith, P .within))
 
-  pub own-loaded : {work′ : List ℕ} {w o a : ℕ} {z : Size} → w ≡ argumentWidth (getD s (at + front) 0) → NumberIs s at front o → SizeIs s (at + front + 1) z
-      → NumberIs s (at + front + 6) w a → Written work work′ q (getD s (at + front) 0) 1 z a o → OwnLoaded s at front work q work′ (at + front + 6 + w)
-  own-loaded {work′} {w} {o} {a} {z} e offset size-read argument W = record {
-    root = λ p u rest A.
-        let P = parts A in
-        let width : w ≡ argumentWidth (headOf u .command) = e ∙ ap argumentWidth (P .command) in
-        let N : NumberIs s (at + front + 6) (argumentWidth (headOf u .command)) a = rw width at argument in
-        record {
-          command = W .here .command ∙ P .command;
-          nodes = W .here .nodes;
-          size = W .here .size ∙ size-read .of (headOf u .size) _ (A .size) (P .size) ∙ head-size u;
-          argument = W .here .argument ∙ N .of (headOf u .argument) rest (A .argument) (P .argument);
-          offset = W .here .offset ∙ offset .of p _ (A .offset) (P .offset);
-        };
-    behind = λ p u rest A.
-        let P = parts A in
-        let width : w ≡ argumentWidth (headOf u .command) = e ∙ ap argumentWidth (P .command) in
-        rw width (P .behind);
-    within = own-inside e .1;
-    others = W .others;
-  }
+    pub own-loaded : {work′ : List ℕ} {o a : ℕ} {z : Size} → o ≡ numberAt front s at → z ≡ sizeAt (row .size) s (at + front + 1)
+        → a ≡ numberAt (row .argument) s (at + front + 1 + row .size) → Written work work′ q (getD s (at + front) 0) 1 z a o
+        → OwnLoaded s at front work q work′ (at + front + 1 + row .size + row .argument)
+    own-loaded {work′} {o} {a} {z} offset size-read argument W = record {
+      root = λ p u rest A.
+          let P = parts A in
+          let known : row ≡ commandAt (headOf u .command) = e ∙ ap commandAt (P .command) in
+          let size-is-read : sizeAt (row .size) s (at + front + 1) ≡ headOf u .size = rw known (size-is _ s _ _ _ (size-width u .some) (size-fits u (A .size)) (P .size)) in
+          let argument-is-read : numberAt (row .argument) s (at + front + 1 + row .size) ≡ headOf u .argument = rw known (number-is _ s _ _ rest (A .argument) (P .argument)) in
+          record {
+            command = W .here .command ∙ P .command;
+            nodes = W .here .nodes;
+            size = W .here .size ∙ size-read ∙ size-is-read ∙ head-size u;
+            argument = W .here .argument ∙ argument ∙ argument-is-read;
+            offset = W .here .offset ∙ offset ∙ number-is front s at p _ (A .offset) (P .offset);
+          };
+      behind = λ p u rest A.
+          let P = parts A in
+          let known : row ≡ commandAt (headOf u .command) = e ∙ ap commandAt (P .command) in
+          rw known (P .behind);
+      within = own-inside .2;
+      others = W .others;
+    }

@@ -12,11 +12,11 @@ use Rattle.definitions.proofs.Nodes.{some-node}
 use Rattle.records.specs.Records.{commandIn, countIn, argumentIn}
 use Rattle.records.specs.Usages.{At, EntriesAt}
 use Rattle.records.proofs.Usages.{root-of}
-use Rattle.transfer.specs.Nodes.{Width}
+use Rattle.transfer.specs.Nodes.{ownWidth}
 use Rattle.transfer.specs.Writing.{Standing, EntriesTo, CountIs, ArgumentIs}
 use Rattle.transfer.proofs.Commands.{is-map}
 use Rattle.transfer.proofs.Stepping.{count-nodes}
-use Rattle.transfer.proofs.Widths.{command-small, argument-width}
+use Rattle.transfer.proofs.Widths.{command-small, own-small}
 
 module _ {s : List ℕ} {q : ℕ} (P : Standing s q) where
   pub record-inside : q * 32 + 32 ≤ length s
@@ -25,8 +25,8 @@ module _ {s : List ℕ} {q : ℕ} (P : Standing s q) where
   pub command-byte : commandIn s q < 256
   command-byte = omega (arith, root-of (P .usage) s q (P .offset) (P .stands) .1 .command, command-small (P .usage))
 
-  pub width-read : {w : ℕ} → w ≡ argumentWidth (commandIn s q) → Width w
-  width-read e = rw (e, root-of (P .usage) s q (P .offset) (P .stands) .1 .command) (argument-width (P .usage))
+  pub own-read : {w : ℕ} → w ≡ ownWidth (commandIn s q) → w ≤ 10
+  own-read e = rw (e, root-of (P .usage) s q (P .offset) (P .stands) .1 .command) (own-small (P .usage))
 
   pub count-inside : (n : ℕ) → n ≡ countIn s q → ((q + n) * 32 ≤ length s) × (n ≤ 65536)
   count-inside n e = let h = root-of (P .usage) s q (P .offset) (P .stands) .1 .nodes in (omega (arith, P .inside), omega (arith, P .small))

@@ -6,12 +6,12 @@ use mathlib.Core.List.{List, [], _++_, append-assoc, append-nil}
 use native.Mathlib.Omega.{arith}
 use lib.ListN.{length, length-append}
 use Rattle.definitions.specs.Usage.{Usage, unused, leaf, map, array, Entries, none, entry, nodes, nodesIn}
-use Rattle.definitions.specs.Command.{headOf, argumentWidth}
+use Rattle.definitions.specs.Command.{headOf}
 use Rattle.definitions.specs.Stream.{writeNode}
 use Rattle.records.specs.Records.{commandIn, countIn}
 use Rattle.records.specs.Usages.{At, EntriesAt}
 use Rattle.records.proofs.Usages.{root-of, one-entry, entries-join}
-use Rattle.transfer.specs.Nodes.{frontBehind, own}
+use Rattle.transfer.specs.Nodes.{ownWidth, frontBehind, own}
 use Rattle.transfer.specs.Writing.{Standing}
 use Rattle.transfer.proofs.Pending.{behind, pending, own-first, behind-nodes}
 use Rattle.transfer.proofs.Stepping.{no-record}
@@ -30,7 +30,7 @@ pub record Turn (u : Usage) (s : List ℕ) (end i front : ℕ) (text : List ℕ)
   pub offset : ℕ
   pub stands : At node s i offset
   pub within : i + nodes node ≤ end
-  pub fits : length text + (front + 6 + argumentWidth (headOf node .command)) ≤ length (writeNode u)
+  pub fits : length text + (front + ownWidth (headOf node .command)) ≤ length (writeNode u)
   pub next : Progress u s end (i + 1) (frontBehind (commandIn s i)) (text ++ own front offset node)
 
 -- what lies below u's root, and what stands behind u, is what is left behind the root

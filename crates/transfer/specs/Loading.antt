@@ -7,9 +7,10 @@ use lib.ListN.{length, drop}
 use Rattle.definitions.specs.Usage.{Usage, unused, leaf, map, array, Entries, none, entry, size, nodes}
 use Rattle.definitions.specs.Command.{headOf}
 use Rattle.definitions.specs.Stream.{read, readNode}
+use Rattle.records.specs.Words.{Width}
 use Rattle.records.specs.Records.{Holds, Same}
 use Rattle.records.specs.Usages.{At, EntriesAt}
-use Rattle.transfer.specs.Nodes.{Width, OwnAt}
+use Rattle.transfer.specs.Nodes.{OwnAt}
 
 -- record q is the root of u as it is loaded: with one node, and the argument that the stream has
 abbrev pub Bare : Usage → List ℕ → ℕ → ℕ → Type 0

@@ -1,28 +1,30 @@
 -- One node of a stream: its own part, with its offset in front where it is a map's entry.
 -- Assumes nothing.
-use Prim.Native.Nat.{ℕ, _+_, _^_, _%_, _<_, _≤_}
+use Prim.Native.Nat.{ℕ, _+_, _-_, _^_, _<_, _≤_}
 use mathlib.Core.Path.{_≡_}
 use mathlib.Core.List.{List, _++_}
 use lib.Dec.{eqb}
-use lib.ListN.{length, drop}
+use lib.ListN.{length, getD, drop}
 use lib.Seq.{sets}
 use Rattle.definitions.specs.If.{if_then_else_}
 use Rattle.definitions.specs.Usage.{Size, In32, Usage}
-use Rattle.definitions.specs.Command.{headOf, argumentWidth}
-use Rattle.definitions.specs.Stream.{bytes, writeSize, writeHead}
+use Rattle.definitions.specs.Command.{headOf, sizeWidth, argumentWidth}
+use Rattle.definitions.specs.Stream.{bytes, writeHead}
+use Rattle.records.specs.Words.{Width, numberAt}
+use Rattle.records.specs.Records.{sizeFrom}
 
--- the bytes of a number in a stream: none, two or four
-pub record Width (w : ℕ) : Type 0 where
-  pub even : w % 2 ≡ 0
-  pub small : w ≤ 4
+-- a size in w bytes: a flag, and a number behind it
+pub record SizeWidth (w : ℕ) : Type 0 where
+  pub some : 1 ≤ w
+  pub number : Width (w - 1)
 
--- r is the number that is written in the w bytes from i on, and z the size that is written from i on, where one is
+-- the size in the w bytes from byte i on
+unfoldable pub sizeAt : ℕ → List ℕ → ℕ → Size
+sizeAt w s i = sizeFrom (getD s i 0) (numberAt (w - 1) s (i + 1))
 
-pub record NumberIs (s : List ℕ) (i w r : ℕ) : Type 0 where
-  pub of : (v : ℕ) (rest : List ℕ) → v < 256 ^ w → drop i s ≡ bytes w v ++ rest → r ≡ v
-
-pub record SizeIs (s : List ℕ) (i : ℕ) (z : Size) : Type 0 where
-  pub of : (y : Size) (rest : List ℕ) → In32 y → drop i s ≡ writeSize y ++ rest → z ≡ y
+-- the bytes of a node's own part: its command, its size and its argument
+abbrev pub ownWidth : ℕ → ℕ
+ownWidth c = 1 + sizeWidth c + argumentWidth c
 
 -- The bytes of the offset in front of the node behind one of command c: behind an array comes its element, which has none, and
 -- behind any other node only an entry can come.

@@ -7,8 +7,9 @@ use lib.ListN.{length}
 use Rattle.definitions.specs.Usage.{Usage, Entries, nodes, nodesIn, count}
 use Rattle.definitions.specs.Command.{headOf, argumentWidth}
 use Rattle.definitions.specs.Stream.{bytes, writeNode}
+use Rattle.records.specs.Words.{Width}
 use Rattle.records.specs.Usages.{At, EntriesAt}
-use Rattle.transfer.specs.Nodes.{Width, own, Put}
+use Rattle.transfer.specs.Nodes.{ownWidth, own, Put}
 
 -- some usage stands at record q, inside s
 pub record Standing (s : List ℕ) (q : ℕ) : Type 0 where
@@ -27,7 +28,7 @@ pub record Fitting (s : List ℕ) (q : ℕ) (out : List ℕ) (at : ℕ) : Type 0
 pub record OwnFitting (s : List ℕ) (q front : ℕ) (out : List ℕ) (at : ℕ) : Type 0 where
   pub standing : Standing s q
   pub width : Width front
-  pub room : at + front + 6 + argumentWidth (headOf (standing .usage) .command) ≤ length out
+  pub room : at + front + ownWidth (headOf (standing .usage) .command) ≤ length out
 
 -- some entries stand from record q to record `end`, inside s
 pub record EntriesTo (s : List ℕ) (q end : ℕ) : Type 0 where

@@ -1,93 +1,67 @@
 // Usages between streams and records: written out of records, and loaded into them, node by node in the order of both.
 ghost use mathlib.Core.Path.{_≡_};
 ghost use Prim.Native.Nat.{_+_, _*_, _<_, _≤_};
-ghost use mathlib.Core.List.{_∷_, _++_};
 ghost use lib.ListN.{length};
 ghost use lib.Seq.{sets};
-ghost use Rattle.definitions.specs.Command.{argumentWidth};
-ghost use Rattle.definitions.specs.Stream.{bytes, writeSize};
+ghost use Rattle.definitions.specs.Command.{sizeWidth};
+ghost use Rattle.definitions.specs.Stream.{writeSize, writeHead};
 ghost use Rattle.qptr.specs.Values.{sizeOf};
 ghost use Rattle.records.specs.Records.{commandIn};
 ghost use Rattle.records.specs.Usages.{At};
-ghost use Rattle.transfer.specs.Nodes.{Width, NumberIs, SizeIs, frontBehind};
+ghost use Rattle.transfer.specs.Nodes.{SizeWidth, sizeAt, ownWidth, frontBehind, Put};
 ghost use Rattle.transfer.specs.Writing.{Standing, Fitting, OwnFitting, EntriesTo, CountIs, EntriesOf, EndIs, ArgumentIs, LengthIs, OwnPut, UsagePut};
 ghost use Rattle.transfer.specs.Loading.{Raw, Countable, NodesAre, Uncounted, Filled, OwnReady, OwnLoaded, Loadable, Loaded};
 use qptr::Command;
 use qptr::MaxSize;
 use records::argument;
 use records::command;
-use records::get32;
 use records::max_size;
 use records::nodes;
+use records::number;
 use records::offset;
 use records::put_nodes;
+use records::put_number;
 use records::put_record;
-use records::put32;
 
-// The number in the w bytes from i on.
-fn number(s: &[u8], i: usize, w: usize) -> u32
-    requires { ⌜ Width w × (i + w ≤ length (now s)) ⌝ }
-    ensures { λ r. ⌜ NumberIs (now (s .entry)) i w r ⌝ }
-{
-    if w == 0 {
-        return 0;
-    }
-    if w == 2 {
-        return s[i] as u32 + s[i + 1] as u32 * 256;
-    }
-    get32(s, i)
-}
-
-fn put_number(out: &mut [u8], i: usize, w: usize, v: u32)
-    requires { ⌜ Width w × (i + w ≤ length (now out)) ⌝ }
-    ensures { λ r. ⌜ now (out .exit) ≡ sets (now (out .entry)) i (bytes w v) ⌝ }
-{
-    if w == 0 {
-        return;
-    }
-    if w == 2 {
-        out[i] = (v % 256) as u8;
-        out[i + 1] = (v / 256 % 256) as u8;
-        return;
-    }
-    put32(out, i, v);
-}
-
-// The size in the five bytes from i on.
-fn size(s: &[u8], i: usize) -> MaxSize
-    requires { ⌜ i + 5 ≤ length (now s) ⌝ }
-    ensures { λ r. ⌜ SizeIs (now (s .entry)) i (sizeOf r) ⌝ }
+// The size in the w bytes from i on.
+fn size(s: &[u8], i: usize, w: usize) -> MaxSize
+    requires { ⌜ SizeWidth w × (i + w ≤ length (now s)) ⌝ }
+    ensures { λ r. ⌜ sizeOf r ≡ sizeAt w (now (s .entry)) i ⌝ }
 {
     if s[i] == 0 {
         return MaxSize::Dynamic;
     }
-    MaxSize::Fixed(get32(s, i + 1))
+    MaxSize::Fixed(number(s, i + 1, w - 1))
 }
 
-fn put_size(out: &mut [u8], i: usize, z: MaxSize)
-    requires { ⌜ i + 5 ≤ length (now out) ⌝ }
-    ensures { λ r. ⌜ now (out .exit) ≡ sets (now (out .entry)) i (writeSize (sizeOf z)) ⌝ }
+fn put_size(out: &mut [u8], i: usize, w: usize, z: MaxSize)
+    requires { ⌜ SizeWidth w × (i + w ≤ length (now out)) ⌝ }
+    ensures { λ r. ⌜ now (out .exit) ≡ sets (now (out .entry)) i (writeSize w (sizeOf z)) ⌝ }
 {
     match z {
         MaxSize::Dynamic => {
             out[i] = 0;
-            put32(out, i + 1, 0);
+            put_number(out, i + 1, w - 1, 0);
         }
         MaxSize::Fixed(n) => {
             out[i] = 1;
-            put32(out, i + 1, n);
+            put_number(out, i + 1, w - 1, n);
         }
     }
 }
 
-// A node's own part: its command, its size, and its argument of w bytes.
-fn put_head(out: &mut [u8], i: usize, c: u8, z: MaxSize, w: usize, a: u32)
-    requires { ⌜ Width w × (i + 6 + w ≤ length (now out)) ⌝ }
-    ensures { λ r. ⌜ now (out .exit) ≡ sets (now (out .entry)) i (c ∷ writeSize (sizeOf z) ++ bytes w a) ⌝ }
+// A node's own part, its command, its size and its argument, goes to i; the place behind it.
+fn put_head(out: &mut [u8], i: usize, c: u8, z: MaxSize, a: u32) -> usize
+    requires { ⌜ SizeWidth (sizeWidth c) × (i + ownWidth c ≤ length (now out)) ⌝ }
+    ensures { λ r. ⌜ Put (writeHead (record { command = c; size = sizeOf z; argument = a })) (now (out .entry)) i (now (out .exit)) r ⌝ }
 {
+    let row = Command::of(c);
+    let v = row.size as usize;
+    let w = row.argument as usize;
     out[i] = c;
-    put_size(out, i + 1, z);
-    put_number(out, i + 6, w, a);
+    put_size(out, i + 1, v, z);
+    put_number(out, i + 1 + v, w, a);
+    i + 1 + v + w
 }
 
 // The bytes of the offset in front of the node behind record q.
@@ -101,12 +75,13 @@ fn front_behind(s: &[u8], q: usize) -> usize
     4
 }
 
-// The bytes of the argument of the node at record q.
-fn argument_width(s: &[u8], q: usize) -> usize
+// The bytes of the own part of the node at record q.
+fn own_width(s: &[u8], q: usize) -> usize
     requires { ⌜ (q * 32 + 32 ≤ length (now s)) × (commandIn (now s) q < 256) ⌝ }
-    ensures { λ r. ⌜ r ≡ argumentWidth (commandIn (now (s .entry)) q) ⌝ }
+    ensures { λ r. ⌜ r ≡ ownWidth (commandIn (now (s .entry)) q) ⌝ }
 {
-    Command::of(command(s, q) as u8).argument as usize
+    let row = Command::of(command(s, q) as u8);
+    1 + row.size as usize + row.argument as usize
 }
 
 // How many entries stand from record q to record `end`.
@@ -144,7 +119,7 @@ pub fn written_length(s: &[u8], q: usize) -> usize
     let mut front: usize = 0;
     let mut n: usize = 0;
     while i < end {
-        n += front + 6 + argument_width(s, i);
+        n += front + own_width(s, i);
         front = front_behind(s, i);
         i += 1;
     }
@@ -156,13 +131,11 @@ fn write_own(s: &[u8], q: usize, front: usize, out: &mut [u8], at: usize) -> usi
     requires { ⌜ OwnFitting (now s) q front (now out) at ⌝ }
     ensures { λ r. ⌜ OwnPut (now (s .entry)) q front (now (out .entry)) at (now (out .exit)) r ⌝ }
 {
-    let w = argument_width(s, q);
     let c = command(s, q) as u8;
     let z = max_size(s, q);
     let a = written_argument(s, q);
     put_number(out, at, front, offset(s, q));
-    put_head(out, at + front, c, z, w, a);
-    at + front + 6 + w
+    put_head(out, at + front, c, z, a)
 }
 
 // The usage at record q goes to `at`; the place behind it.
@@ -231,11 +204,14 @@ fn load_own(s: &[u8], at: usize, front: usize, work: &mut [u8], q: usize) -> usi
 {
     let h = at + front;
     let c = s[h];
-    let w = Command::of(c).argument as usize;
-    let end = h + 6 + w;
+    let row = Command::of(c);
+    let v = row.size as usize;
+    let w = row.argument as usize;
+    let end = h + 1 + v + w;
     let o = number(s, at, front);
-    let a = number(s, h + 6, w);
-    put_record(work, q, c as u32, 1, size(s, h + 1), a, o);
+    let z = size(s, h + 1, v);
+    let a = number(s, h + 1 + v, w);
+    put_record(work, q, c as u32, 1, z, a, o);
     end
 }
 

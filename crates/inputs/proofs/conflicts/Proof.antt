@@ -1,7 +1,9 @@
 -- `conflicts` meets its contract: an Opaque is the same as another top where their first bytes and their types are.
 -- Assumes nothing.
-use mathlib.Core.Path.{sym, _∙_}
+use mathlib.Core.Path.{ap, sym, _∙_}
 use native.Mathlib.Omega.{arith}
+use borrow.Author.Needs.{needs}
+use Rattle.definitions.specs.Command.{Command}
 use Rattle.definitions.proofs.Written.{Bytes}
 use Rattle.inputs.proofs.FirstBytes.{some-bytes, opaque-bytes, other-bytes, other-kind, other-type, same-opaque}
 use Rattle.inputs.proofs.conflicts.Statement.{statement}
@@ -22,21 +24,29 @@ shared-slice-read-if1-2 c = some-bytes (c .before .before .before .before .args 
 returns : tie.Need-returns
 returns c = let a = c .before .before .before .before .before .args in other-kind (a .first .now) (a .second .now) (first-bytes (c .before .before .before)) (second-bytes (c .before .before .before)) (c .if1 .taken)
 
-get32-requires : tie.Need-get32-requires
-get32-requires c κs = opaque-bytes (c .before .before .before .before .before .args .first .now) (first-bytes (c .before .before .before)) (c .before .before .before .before .before .pre .first-is)
+of-requires : tie.Need-of-requires
+of-requires c κs = search needs
 
-get32-requires-2 : tie.Need-get32-requires-2
-get32-requires-2 c κs = let a = c .before .before .before .before .before .before .args in other-bytes (a .first .now) (a .second .now) (first-bytes (c .before .before .before .before)) (second-bytes (c .before .before .before .before)) (c .before .before .before .before .before .before .pre) (omega (arith, c .before .if1 .left))
+cast-width : tie.Need-cast-width
+cast-width c = search needs
+
+number-requires : tie.Need-number-requires
+number-requires c κs = let start = c .before .before .before .before .before .before .before in opaque-bytes (start .args .first .now) (first-bytes (c .before .before .before .before .before)) (ap (λ (r : Command). r .argument) (c .before .of .ensures)) (start .pre .first-is)
+
+number-requires-2 : tie.Need-number-requires-2
+number-requires-2 c κs =
+    let start = c .before .before .before .before .before .before .before .before in
+    other-bytes (start .args .first .now) (start .args .second .now) (first-bytes (c .before .before .before .before .before .before)) (second-bytes (c .before .before .before .before .before .before)) (ap (λ (r : Command). r .argument) (c .before .before .of .ensures)) (start .pre) (omega (arith, c .before .before .before .if1 .left))
 
 returns-2 : tie.Need-returns-2
 returns-2 c =
-    let a = c .before .before .before .before .before .before .before .before .args in
-    other-type (a .first .now) (a .second .now) (first-bytes (c .before .before .before .before .before .before)) (second-bytes (c .before .before .before .before .before .before)) (λ same. c .if2 .taken (c .before .before .get32 .ensures ∙ same ∙ sym (c .before .get322 .ensures)))
+    let a = c .before .before .before .before .before .before .before .before .before .before .args in
+    other-type (a .first .now) (a .second .now) (first-bytes (c .before .before .before .before .before .before .before .before)) (second-bytes (c .before .before .before .before .before .before .before .before)) (ap (λ (r : Command). r .argument) (c .before .before .before .before .of .ensures)) (λ same. c .if2 .taken (c .before .before .number .ensures ∙ same ∙ sym (c .before .number2 .ensures)))
 
 returns-3 : tie.Need-returns-3
 returns-3 c =
-    let a = c .before .before .before .before .before .before .before .before .args in
-    same-opaque (a .first .now) (a .second .now) (first-bytes (c .before .before .before .before .before .before)) (second-bytes (c .before .before .before .before .before .before)) (omega (arith, c .before .before .before .if1 .left)) (omega (arith, c .if2 .left, c .before .before .get32 .ensures, c .before .get322 .ensures))
+    let a = c .before .before .before .before .before .before .before .before .before .before .args in
+    same-opaque (a .first .now) (a .second .now) (first-bytes (c .before .before .before .before .before .before .before .before)) (second-bytes (c .before .before .before .before .before .before .before .before)) (ap (λ (r : Command). r .argument) (c .before .before .before .before .of .ensures)) (omega (arith, c .before .before .before .before .before .if1 .left)) (omega (arith, c .if2 .left, c .before .before .number .ensures, c .before .number2 .ensures))
 
 pub conflicts-spec : {M : Type 1} → statement M
 conflicts-spec =
@@ -45,7 +55,9 @@ conflicts-spec =
     shared-slice-read-if1
     shared-slice-read-if1-2
     returns
-    get32-requires
-    get32-requires-2
+    of-requires
+    cast-width
+    number-requires
+    number-requires-2
     returns-2
     returns-3)

@@ -17,8 +17,11 @@ abbrev μ-loop : tie.MeasureT-loop
 returns : tie.Need-returns Inv-loop μ-loop
 returns c = refuses (search (no-count, needs))
 
-get16-requires : tie.Need-get16-requires Inv-loop μ-loop
-get16-requires c κs = search needs
+number-requires : tie.Need-number-requires Inv-loop μ-loop
+number-requires c κs = search needs
+
+cast-count : tie.Need-cast-count Inv-loop μ-loop
+cast-count c = search needs
 
 returns-2 : tie.Need-returns-2 Inv-loop μ-loop
 returns-2 c = refuses (search (many-records, needs))
@@ -87,7 +90,8 @@ accept-spec =
     Inv-loop
     μ-loop
     returns
-    get16-requires
+    number-requires
+    cast-count
     returns-2
     loop-holds
     record-end-requires

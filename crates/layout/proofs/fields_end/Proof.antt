@@ -13,11 +13,14 @@ sub-left c = search needs
 returns : tie.Need-returns
 returns c = let a = c .before .before .args in refused (a .s .now) (a .at) (omega arith) (omega arith) (omega arith) (omega arith) (omega arith)
 
-add-get16 : tie.Need-add-get16
-add-get16 c = search needs
+add-number : tie.Need-add-number
+add-number c = search needs
 
-get16-requires : tie.Need-get16-requires
-get16-requires c κs = search needs
+number-requires : tie.Need-number-requires
+number-requires c κs = search needs
+
+cast-count : tie.Need-cast-count
+cast-count c = search needs
 
 returns-2 : tie.Need-returns-2
 returns-2 c = let a = c .before .before .before .before .args in refused (a .s .now) (a .at) (omega arith) (omega arith) (omega arith) (omega arith) (omega arith)
@@ -35,7 +38,7 @@ add-t6 : tie.Need-add-t6
 add-t6 c = search needs
 
 returns-4 : tie.Need-returns-4
-returns-4 c = let a = c .before .before .before .before .before .args in fields-end (a .s .now) (a .at) (c .before .before .get16 .result) (omega arith) (omega arith) (omega arith) (omega arith)
+returns-4 c = let a = c .before .before .before .before .before .args in fields-end (a .s .now) (a .at) (c .before .before .number .result) (omega arith) (omega arith) (omega arith) (omega arith)
 
 pub fields-end-spec : {M : Type 1} → statement M
 fields-end-spec =
@@ -43,8 +46,9 @@ fields-end-spec =
     (tie.spec
     sub-left
     returns
-    add-get16
-    get16-requires
+    add-number
+    number-requires
+    cast-count
     returns-2
     mul-size
     add-size

@@ -11,11 +11,14 @@ use Rattle.layout.proofs.has_few.Tie as tie
 returns : tie.Need-returns
 returns c y = absurd (clash y refl)
 
-get16-requires : tie.Need-get16-requires
-get16-requires c κs = search needs
+number-requires : tie.Need-number-requires
+number-requires c κs = search needs
+
+cast-result : tie.Need-cast-result
+cast-result c = search needs
 
 returns-2 : tie.Need-returns-2
-returns-2 c y = omega (arith, leb-true (c .get16 .result) 32 y)
+returns-2 c y = omega (arith, leb-true (c .number .result) 32 y)
 
 pub has-few-spec : {M : Type 1} → statement M
-has-few-spec = tie.close (tie.spec returns get16-requires returns-2)
+has-few-spec = tie.close (tie.spec returns number-requires cast-result returns-2)

@@ -48,11 +48,14 @@ returns-4 c = search (reads-elements, needs)
 add-t16 : tie.Need-add-t16
 add-t16 c = omega (arith, fields-room _ _ (c .before .before .before .before .before .before .pre) (c .before .before .before .if1 .left) (c .before .before .if2 .left) (c .before .if3 .left) (c .if4 .left) .0)
 
-add-get16 : tie.Need-add-get16
-add-get16 c = omega (arith, fields-room _ _ (c .before .before .before .before .before .before .pre) (c .before .before .before .if1 .left) (c .before .before .if2 .left) (c .before .if3 .left) (c .if4 .left) .0)
+add-number : tie.Need-add-number
+add-number c = omega (arith, fields-room _ _ (c .before .before .before .before .before .before .pre) (c .before .before .before .if1 .left) (c .before .before .if2 .left) (c .before .if3 .left) (c .if4 .left) .0)
 
-get16-requires : tie.Need-get16-requires
-get16-requires c κs = omega (arith, fields-room _ _ (c .before .before .before .before .before .before .pre) (c .before .before .before .if1 .left) (c .before .before .if2 .left) (c .before .if3 .left) (c .if4 .left) .0)
+number-requires : tie.Need-number-requires
+number-requires c κs = omega (arith, fields-room _ _ (c .before .before .before .before .before .before .pre) (c .before .before .before .if1 .left) (c .before .before .if2 .left) (c .before .if3 .left) (c .if4 .left) .0)
+
+cast-t19 : tie.Need-cast-t19
+cast-t19 c = search needs
 
 concrete-at-requires-3 : tie.Need-concrete-at-requires-3
 concrete-at-requires-3 c κs = search (concrete-room, needs)
@@ -78,7 +81,8 @@ layout-at-spec =
     concrete-at-requires-2
     returns-4
     add-t16
-    add-get16
-    get16-requires
+    add-number
+    number-requires
+    cast-t19
     concrete-at-requires-3
     returns-5)

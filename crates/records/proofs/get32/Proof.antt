@@ -1,9 +1,19 @@
 -- `records::get32` meets its contract. The four bytes are below 256, so no sum wraps, and the sum is the word.
 -- Assumes nothing.
+use Prim.Native.Nat.{ℕ, _+_, _*_}
+use mathlib.Core.Path.{_≡_}
+use mathlib.Core.List.{List}
+use native.Mathlib.Nat.{add-assoc}
+use native.Mathlib.Omega.{arith}
+use lib.ListN.{getD}
 use borrow.Author.Needs.{needs}
-use Rattle.records.specs.Words.{word}
+use Rattle.records.specs.Words.{numberAt, word}
 use Rattle.records.proofs.get32.Statement.{statement}
 use Rattle.records.proofs.get32.Tie as tie
+
+sum : (s : List ℕ) (i : ℕ) → word s i ≡ getD s i 0 + getD s (i + 1) 0 * 256 + getD s (i + 2) 0 * 65536 + getD s (i + 3) 0 * 16777216
+unfolding numberAt
+sum s i = simp add-assoc (omega arith)
 
 shared-slice-read-wide : tie.Need-shared-slice-read-wide
 shared-slice-read-wide c = search needs
@@ -57,8 +67,9 @@ add-result-3 : tie.Need-add-result-3
 add-result-3 c = search needs
 
 returns : tie.Need-returns
-unfolding word
-returns c = search needs
+returns c =
+    let a = c .before .before .before .before .before .before .before .before .before .args in
+    omega (arith, sum (a .s .now) (a .i))
 
 pub get32-spec : {M : Type 1} → statement M
 get32-spec =

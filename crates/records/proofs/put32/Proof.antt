@@ -1,12 +1,22 @@
 -- `records::put32` meets its contract. Four stores, which keep the length, are what `put` says.
 -- Assumes nothing.
-use mathlib.Core.Path.{refl}
+use Prim.Native.Nat.{ℕ, suc, _+_, _/_, _%_}
+use mathlib.Core.Path.{_≡_}
+use mathlib.Core.List.{List}
 use native.Mathlib.Omega.{arith}
-use lib.ListN.{length-set}
+use lib.ListN.{set, length-set}
 use borrow.Author.Needs.{needs}
-use Rattle.records.specs.Words.{put}
+use Rattle.records.specs.Words.{putAt, put}
 use Rattle.records.proofs.put32.Statement.{statement}
 use Rattle.records.proofs.put32.Tie as tie
+
+stores : (s : List ℕ) (i v : ℕ) → set (set (set (set s i (v % 256)) (i + 1) (v / 256 % 256)) (i + 2) (v / 256 / 256 % 256)) (i + 3) (v / 256 / 256 / 256 % 256) ≡ put s i v
+unfolding putAt
+stores s i v =
+    let e₁ : i + 1 ≡ suc i = omega arith in
+    let e₂ : i + 2 ≡ suc (suc i) = omega arith in
+    let e₃ : i + 3 ≡ suc (suc (suc i)) = omega arith in
+    rw (e₁, e₂, e₃)
 
 cast-s : tie.Need-cast-s
 cast-s c = search needs
@@ -45,8 +55,7 @@ same-length : tie.Need-same-length
 same-length c = search needs
 
 returns : tie.Need-returns
-unfolding put
-returns c = refl
+returns c = stores _ _ _
 
 pub put32-spec : {M : Type 1} → statement M
 put32-spec =

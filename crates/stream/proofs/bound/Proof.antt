@@ -3,7 +3,7 @@
 use native.Mathlib.Omega.{arith}
 use native.Mathlib.Numerals.{add-one}
 use borrow.Author.Needs.{needs}
-use Rattle.stream.specs.Head.{partOf}
+use Rattle.qptr.specs.Values.{partOf}
 use Rattle.stream.proofs.Deciding.{typed, untyped}
 use Rattle.stream.proofs.bound.Statement.{statement}
 use Rattle.stream.proofs.bound.Tie as tie

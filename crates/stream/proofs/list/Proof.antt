@@ -3,7 +3,7 @@
 use mathlib.Core.Path.{sym, ap, _∙_}
 use native.Mathlib.Omega.{arith}
 use borrow.Author.Needs.{needs}
-use Rattle.stream.proofs.Widths.{widths}
+use Rattle.records.proofs.Widths.{argument-width}
 use Rattle.stream.proofs.Firsts.{nothing-first, list-other, Begun, list-short, list-zero, list-nodes}
 use Rattle.stream.proofs.list.Statement.{statement}
 use Rattle.stream.proofs.list.Tie as tie
@@ -20,26 +20,23 @@ returns-2 c = rw (list-other (c .before .before .before .before .args .s .now) (
 of-requires : tie.Need-of-requires
 of-requires c κs = search needs
 
+cast-width : tie.Need-cast-width
+cast-width c = search needs
+
 sub-if3 : tie.Need-sub-if3
 sub-if3 c = search needs
-
-cast-if3 : tie.Need-cast-if3
-cast-if3 c = search needs
 
 begun : (c : tie.After-of) → Begun (c .before .before .before .before .before .args .s .now) (c .of .result .argument)
 begun c = record { command = c .before .if2 .left; width = ap (λ r. r .argument) (c .of .ensures) }
 
 returns-3 : tie.Need-returns-3
-returns-3 c = rw (list-short (begun (c .before)) (c .if3 .taken))
+returns-3 c = rw (list-short (begun (c .before .before)) (c .if3 .taken))
 
-operand-requires : tie.Need-operand-requires
-operand-requires c κs = (rw (ap (λ r. r .argument) (c .before .of .ensures)) (widths 0x0B), omega arith)
+number-requires : tie.Need-number-requires
+number-requires c κs = (rw (ap (λ r. r .argument) (c .before .before .of .ensures)) (argument-width 0x0B), omega arith)
 
 returns-4 : tie.Need-returns-4
-returns-4 c = rw (list-zero (begun (c .before .before .before)) (c .before .operand .ensures) (c .if4 .taken))
-
-cast-several : tie.Need-cast-several
-cast-several c = search needs
+returns-4 c = rw (list-zero (begun (c .before .before .before .before)) (omega arith) (c .before .number .ensures) (c .if4 .taken))
 
 add-several : tie.Need-add-several
 add-several c = search needs
@@ -48,7 +45,7 @@ several-requires : tie.Need-several-requires
 several-requires c κs = search needs
 
 returns-5 : tie.Need-returns-5
-returns-5 c = c .several .ensures ∙ sym (list-nodes (begun (c .before .before .before .before)) (c .before .before .operand .ensures) (c .before .if4 .left))
+returns-5 c = c .several .ensures ∙ sym (list-nodes (begun (c .before .before .before .before .before)) (omega arith) (c .before .before .number .ensures) (c .before .if4 .left))
 
 pub list-spec : {M : Type 1} → statement M
 list-spec =
@@ -58,12 +55,11 @@ list-spec =
     shared-slice-read-if2
     returns-2
     of-requires
+    cast-width
     sub-if3
-    cast-if3
     returns-3
-    operand-requires
+    number-requires
     returns-4
-    cast-several
     add-several
     several-requires
     returns-5)

@@ -2,16 +2,12 @@
 -- Assumes nothing.
 use native.Mathlib.Omega.{arith}
 use borrow.Author.Needs.{needs}
-use Rattle.stream.proofs.Parts.{head-few}
-use Rattle.stream.proofs.Outlining.{head-high}
+use Rattle.stream.proofs.Parts.{head-none, head-high}
 use Rattle.stream.proofs.outline.Statement.{statement}
 use Rattle.stream.proofs.outline.Tie as tie
 
-sub-if1 : tie.Need-sub-if1
-sub-if1 c = search needs
-
 returns : tie.Need-returns
-returns c = let a = c .before .before .args in head-few (a .s .now) (a .at) (c .if1 .taken)
+returns c = let a = c .before .before .args in head-none (a .s .now) (a .at) (omega arith)
 
 shared-slice-read-command : tie.Need-shared-slice-read-command
 shared-slice-read-command c = search needs
@@ -55,7 +51,6 @@ pub outline-spec : {M : Type 1} → statement M
 outline-spec =
     tie.close
     (tie.spec
-    sub-if1
     returns
     shared-slice-read-command
     outlined-requires

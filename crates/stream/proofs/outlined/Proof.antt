@@ -1,59 +1,71 @@
--- `outlined` meets its contract: whatever the size is, the argument stands behind it, in the bytes that the table gives it.
+-- `outlined` meets its contract: the argument stands behind the size, both in the bytes that the command's row gives them.
 -- Assumes nothing.
-use Prim.Native.Nat.{_+_}
-use mathlib.Core.Path.{_≡_, ap, _∙_}
+use mathlib.Core.Path.{_≡_, sym, ap, _∙_}
 use native.Mathlib.Omega.{arith}
 use borrow.Author.Needs.{needs}
 use lib.ListN.{getD}
-use Rattle.definitions.specs.Command.{argumentWidth}
+use Rattle.definitions.specs.Usage.{dynamic}
+use Rattle.definitions.specs.Command.{commandAt}
 use Rattle.definitions.proofs.Reading.{reads-is}
-use Rattle.stream.proofs.Widths.{widths}
-use Rattle.stream.proofs.Outlining.{head-cut, head-told}
+use Rattle.qptr.specs.Values.{rowOf}
+use Rattle.records.proofs.Widths.{argument-width}
+use Rattle.stream.proofs.Heads.{head-own, own-part}
+use Rattle.stream.proofs.Parts.{head-cut, head-told}
 use Rattle.stream.proofs.outlined.Statement.{statement}
 use Rattle.stream.proofs.outlined.Tie as tie
 
 of-requires : tie.Need-of-requires
 of-requires c κs = search needs
 
+cast-before : tie.Need-cast-before
+cast-before c = search needs
+
+add-before : tie.Need-add-before
+add-before c = search needs
+
+cast-width : tie.Need-cast-width
+cast-width c = search needs
+
+add-width : tie.Need-add-width
+add-width c = search needs
+
 sub-if1 : tie.Need-sub-if1
 sub-if1 c = search needs
 
-sub-if1-2 : tie.Need-sub-if1-2
-sub-if1-2 c = search needs
-
-cast-if1 : tie.Need-cast-if1
-cast-if1 c = search needs
-
-width : (c : tie.After-of) → (let a = c .before .before .args in c .of .result .argument ≡ argumentWidth (getD (a .s .now) (a .at) 0))
-width c = rw (c .before .before .pre .1) (ap (λ r. r .argument) (c .of .ensures))
+row-is : (c : tie.After-of) → (let a = c .before .before .args in rowOf (c .of .result) ≡ commandAt (getD (a .s .now) (a .at) 0))
+row-is c = rw (c .before .before .pre .1) (c .of .ensures)
 
 returns : tie.Need-returns
 returns c =
-    let a = c .before .before .before .args in
-    head-cut (a .s .now) (a .at) (omega arith) _ (width (c .before)) (c .if1 .taken)
+    let a = c .before .before .before .before .before .args in
+    head-cut (a .s .now) (a .at) (omega arith) (c .before .before .before .of .result) (row-is (c .before .before .before)) (omega arith)
 
-add-operand : tie.Need-add-operand
-add-operand c = search needs
+add-number : tie.Need-add-number
+add-number c = search needs
 
-operand-requires : tie.Need-operand-requires
-operand-requires c κs = (rw (ap (λ r. r .argument) (c .before .of .ensures)) (widths _), omega arith)
+cast-number : tie.Need-cast-number
+cast-number c = search needs
 
-add-t9 : tie.Need-add-t9
-add-t9 c = search needs
+number-requires : tie.Need-number-requires
+number-requires c κs = (rw (ap (λ r. r .argument) (c .before .before .before .before .of .ensures)) (argument-width _), omega arith)
 
-cast-t10 : tie.Need-cast-t10
-cast-t10 c = search needs
+of-requires-2 : tie.Need-of-requires-2
+of-requires-2 c κs = search needs
 
 add-t8 : tie.Need-add-t8
 add-t8 c = search needs
 
 returns-2 : tie.Need-returns-2
 returns-2 c =
-    let a = c .before .before .before .before .args in
+    let a = c .before .before .before .before .before .before .before .before .args in
+    let row = c .before .before .before .before .before .before .of in
     record {
       same = λ h rest e.
-          let told = reads-is (head-told (a .s .now) (a .at) (omega arith) _ (width (c .before .before)) _ _ (c .operand .ensures)) e in
-          (told .0 ∙ c .before .before .before .before .pre .1, told .1, told .2);
+          let told = reads-is (head-told (a .s .now) (a .at) (omega arith) (row .result) (row-is (c .before .before .before .before .before .before)) (omega arith)) e in
+          let command : h .command ≡ a .command = told .0 ∙ c .before .before .before .before .before .before .before .before .pre .1 in
+          let argument : h .argument ≡ c .before .number .result = told .1 ∙ sym (c .before .number .ensures) in
+          let part = own-part (head-own _ h rest e) (c .of2 .result) {z = dynamic} (rw (command, argument) (c .of2 .ensures)) in
+          (sym (ap (λ p. p .command) part), sym (ap (λ p. p .argument) part), told .2);
       taken = omega arith;
       within = omega arith;
     }
@@ -63,13 +75,15 @@ outlined-spec =
     tie.close
     (tie.spec
     of-requires
+    cast-before
+    add-before
+    cast-width
+    add-width
     sub-if1
-    sub-if1-2
-    cast-if1
     returns
-    add-operand
-    operand-requires
-    add-t9
-    cast-t10
+    add-number
+    cast-number
+    number-requires
+    of-requires-2
     add-t8
     returns-2)

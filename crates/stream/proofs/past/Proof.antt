@@ -4,7 +4,7 @@ use Prim.Native.Nat.{_+_}
 use mathlib.Core.Path.{ap}
 use native.Mathlib.Omega.{arith}
 use borrow.Author.Needs.{needs}
-use Rattle.stream.specs.Head.{partOf}
+use Rattle.qptr.specs.Values.{partOf}
 use Rattle.stream.proofs.Going.{goes-element, goes-out, goes-short, goes-entry}
 use Rattle.stream.proofs.past.Statement.{statement}
 use Rattle.stream.proofs.past.Tie as tie

@@ -5,8 +5,8 @@ use mathlib.Core.Path.{_≡_, refl, _∙_}
 use native.Mathlib.Omega.{arith}
 use borrow.Author.Needs.{needs}
 use lib.ListN.{length, getD}
+use Rattle.records.specs.Words.{Width}
 use Rattle.records.proofs.Usages.{holds-move}
-use Rattle.transfer.specs.Nodes.{Width}
 use Rattle.transfer.specs.Loading.{KeptBelow}
 use Rattle.transfer.proofs.Filling.{itself}
 use Rattle.transfer.proofs.Loading.{this-turn, Loads, same-nodes, loads-none, loads-more, loads-done, begins-inside}

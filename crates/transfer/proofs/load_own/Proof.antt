@@ -1,10 +1,8 @@
 -- `transfer::load_own` meets its contract: each part is read where it stands, and the record says them.
 -- Assumes nothing.
 use Prim.Native.Nat.{_+_}
-use mathlib.Core.Path.{ap}
 use native.Mathlib.Omega.{arith}
 use borrow.Author.Needs.{needs}
-use Rattle.definitions.specs.Command.{Command}
 use Rattle.transfer.proofs.OwnRead.{head-inside, own-inside, own-loaded}
 use Rattle.transfer.proofs.load_own.Statement.{statement}
 use Rattle.transfer.proofs.load_own.Tie as tie
@@ -18,44 +16,54 @@ shared-slice-read-c c = omega (arith, head-inside (c .before .before .before .pr
 of-requires : tie.Need-of-requires
 of-requires c κs = search needs
 
+cast-v : tie.Need-cast-v
+cast-v c = search needs
+
 cast-w : tie.Need-cast-w
 cast-w c = search needs
 
 add-end : tie.Need-add-end
-add-end c = omega (arith, head-inside (c .before .before .before .before .before .pre))
+add-end c = omega (arith, own-inside (c .before .before .before .before .before .before .pre) (c .before .before .of .ensures) .2)
 
 add-end-2 : tie.Need-add-end-2
-add-end-2 c = omega (arith, own-inside (c .before .before .before .before .before .pre) (ap (λ (r : Command). r .argument) (c .before .of .ensures)) .1)
+add-end-2 c = omega (arith, own-inside (c .before .before .before .before .before .before .pre) (c .before .before .of .ensures) .2)
+
+add-end-3 : tie.Need-add-end-3
+add-end-3 c = omega (arith, own-inside (c .before .before .before .before .before .before .pre) (c .before .before .of .ensures) .2)
 
 number-requires : tie.Need-number-requires
-number-requires c κs = (c .before .before .before .before .before .pre .width, omega (arith, head-inside (c .before .before .before .before .before .pre)))
+number-requires c κs = (c .before .before .before .before .before .before .pre .width, omega (arith, head-inside (c .before .before .before .before .before .before .pre)))
+
+add-size : tie.Need-add-size
+add-size c = omega (arith, head-inside (c .before .before .before .before .before .before .before .pre))
+
+size-requires : tie.Need-size-requires
+size-requires c κs = let inside = own-inside (c .before .before .before .before .before .before .before .pre) (c .before .before .before .of .ensures) in (inside .0, omega (arith, inside .2))
 
 add-number : tie.Need-add-number
-add-number c = omega (arith, head-inside (c .before .before .before .before .before .before .pre))
+add-number c = omega (arith, own-inside (c .before .before .before .before .before .before .before .before .pre) (c .before .before .before .before .of .ensures) .2)
+
+add-number-2 : tie.Need-add-number-2
+add-number-2 c = omega (arith, own-inside (c .before .before .before .before .before .before .before .before .pre) (c .before .before .before .before .of .ensures) .2)
 
 number-requires-2 : tie.Need-number-requires-2
-number-requires-2 c κs = own-inside (c .before .before .before .before .before .before .pre) (ap (λ (r : Command). r .argument) (c .before .before .of .ensures))
+number-requires-2 c κs = let inside = own-inside (c .before .before .before .before .before .before .before .before .pre) (c .before .before .before .before .of .ensures) in (inside .1, inside .2)
 
 cast-put-record : tie.Need-cast-put-record
 cast-put-record c =
-    let at = c .before .before .before .before .before .before .before .before .args in
-    omega (arith, c .before .before .before .before .before .shared-slice-known2 .given (at .at + at .front))
-
-add-size : tie.Need-add-size
-add-size c = omega (arith, head-inside (c .before .before .before .before .before .before .before .before .pre))
-
-size-requires : tie.Need-size-requires
-size-requires c κs = omega (arith, head-inside (c .before .before .before .before .before .before .before .before .pre))
+    let a = c .before .before .before .before .before .before .before .before .before .before .args in
+    omega (arith, c .before .before .before .before .before .before .before .shared-slice-known2 .given (a .at + a .front))
 
 put-record-requires : tie.Need-put-record-requires
 put-record-requires c κs = search needs
 
 same-length : tie.Need-same-length
-same-length c = c .before .before .put-record .kept .0
+same-length c = search needs
 
 returns : tie.Need-returns
 returns c =
-    own-loaded (c .before .before .before .before .before .before .before .before .before .before .before .before .pre) (ap (λ (r : Command). r .argument) (c .before .before .before .before .before .before .before .before .of .ensures)) (c .before .before .before .before .before .before .number .ensures) (c .before .before .before .size .ensures) (c .before .before .before .before .before .number2 .ensures) (c .before .before .put-record .ensures)
+    own-loaded (c .before .before .before .before .before .before .before .before .before .before .before .before .before .pre) (c .before .before .before .before .before .before .before .before .before .of .ensures)
+    (c .before .before .before .before .before .before .number .ensures) (c .before .before .before .before .before .size .ensures) (c .before .before .before .before .number2 .ensures) (c .before .before .put-record .ensures)
 
 pub load-own-spec : {M : Type 1} → statement M
 load-own-spec =
@@ -64,15 +72,18 @@ load-own-spec =
     add-h
     shared-slice-read-c
     of-requires
+    cast-v
     cast-w
     add-end
     add-end-2
+    add-end-3
     number-requires
-    add-number
-    number-requires-2
-    cast-put-record
     add-size
     size-requires
+    add-number
+    add-number-2
+    number-requires-2
+    cast-put-record
     put-record-requires
     same-length
     returns)

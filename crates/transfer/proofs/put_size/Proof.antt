@@ -14,11 +14,14 @@ enum-told c = search needs
 slice-write-out : tie.Need-slice-write-out
 slice-write-out c = search needs
 
-add-put32 : tie.Need-add-put32
-add-put32 c = search needs
+add-put-number : tie.Need-add-put-number
+add-put-number c = search needs
 
-put32-requires : tie.Need-put32-requires
-put32-requires c κs = simp length-set (omega arith)
+sub-put-number : tie.Need-sub-put-number
+sub-put-number c = search needs
+
+put-number-requires : tie.Need-put-number-requires
+put-number-requires c κs = simp length-set (search needs)
 
 enum-known-z : tie.Need-enum-known-z
 enum-known-z c = search needs
@@ -26,20 +29,23 @@ enum-known-z c = search needs
 slice-write-out-2 : tie.Need-slice-write-out-2
 slice-write-out-2 c = search needs
 
-add-put32-2 : tie.Need-add-put32-2
-add-put32-2 c = search needs
+add-put-number-2 : tie.Need-add-put-number-2
+add-put-number-2 c = search needs
 
-put32-requires-2 : tie.Need-put32-requires-2
-put32-requires-2 c κs = simp length-set (omega arith)
+sub-put-number-2 : tie.Need-sub-put-number-2
+sub-put-number-2 c = search needs
+
+put-number-requires-2 : tie.Need-put-number-requires-2
+put-number-requires-2 c κs = simp length-set (search needs)
 
 same-length : tie.Need-same-length
-same-length c = c .before .before .put32 .kept .0 ∙ simp length-set
+same-length c = c .before .before .put-number .kept .0 ∙ simp length-set
 
 returns : tie.Need-returns
 returns c = search (store-dynamic, needs)
 
 same-length-2 : tie.Need-same-length-2
-same-length-2 c = c .before .before .put322 .kept .0 ∙ simp length-set
+same-length-2 c = c .before .before .put-number2 .kept .0 ∙ simp length-set
 
 returns-2 : tie.Need-returns-2
 returns-2 c = search (store-fixed, needs)
@@ -50,12 +56,14 @@ put-size-spec =
     (tie.spec
     enum-told
     slice-write-out
-    add-put32
-    put32-requires
+    add-put-number
+    sub-put-number
+    put-number-requires
     enum-known-z
     slice-write-out-2
-    add-put32-2
-    put32-requires-2
+    add-put-number-2
+    sub-put-number-2
+    put-number-requires-2
     same-length
     returns
     same-length-2

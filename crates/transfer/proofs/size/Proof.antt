@@ -1,5 +1,6 @@
 -- `transfer::size` meets its contract: the flag tells a dynamic size from a fixed one, whose number stands behind it.
 -- Assumes nothing.
+use native.Mathlib.Omega.{arith}
 use borrow.Author.Needs.{needs}
 use Rattle.transfer.proofs.Numbers.{size-dynamic, size-fixed}
 use Rattle.transfer.proofs.size.Statement.{statement}
@@ -11,14 +12,17 @@ shared-slice-read-if1 c = search needs
 returns : tie.Need-returns
 returns c = search (size-dynamic, needs)
 
-add-get32 : tie.Need-add-get32
-add-get32 c = search needs
+add-number : tie.Need-add-number
+add-number c = search needs
 
-get32-requires : tie.Need-get32-requires
-get32-requires c κs = search needs
+sub-number : tie.Need-sub-number
+sub-number c = search needs
+
+number-requires : tie.Need-number-requires
+number-requires c κs = search needs
 
 returns-2 : tie.Need-returns-2
 returns-2 c = search (size-fixed, needs)
 
 pub size-spec : {M : Type 1} → statement M
-size-spec = tie.close (tie.spec shared-slice-read-if1 returns add-get32 get32-requires returns-2)
+size-spec = tie.close (tie.spec shared-slice-read-if1 returns add-number sub-number number-requires returns-2)

@@ -6,7 +6,8 @@ use mathlib.Core.List.{List}
 use native.Mathlib.Omega.{arith}
 use borrow.Author.Needs.{needs}
 use lib.ListN.{length}
-use Rattle.transfer.specs.Nodes.{Width, Put}
+use Rattle.records.specs.Words.{Width}
+use Rattle.transfer.specs.Nodes.{Put}
 use Rattle.transfer.proofs.Roots.{record-inside, count-inside}
 use Rattle.transfer.proofs.Stores.{put-none, put-more}
 use Rattle.transfer.proofs.Widths.{front-width}

@@ -1,6 +1,5 @@
 -- `transfer::write_own` meets its contract: the parts are stored one behind the other.
 -- Assumes nothing.
-use mathlib.Core.Path.{_∙_}
 use native.Mathlib.Omega.{arith}
 use borrow.Author.Needs.{needs}
 use Rattle.transfer.proofs.OwnStored.{own-room, own-stored}
@@ -8,14 +7,11 @@ use Rattle.transfer.proofs.Roots.{record-inside, command-byte}
 use Rattle.transfer.proofs.write_own.Statement.{statement}
 use Rattle.transfer.proofs.write_own.Tie as tie
 
-argument-width-requires : tie.Need-argument-width-requires
-argument-width-requires c κs = search (record-inside, command-byte, needs)
-
 command-requires : tie.Need-command-requires
 command-requires c κs = search (record-inside, needs)
 
 cast-c : tie.Need-cast-c
-cast-c c = omega (arith, command-byte (c .before .before .before .before .pre .standing), c .command .ensures)
+cast-c c = omega (arith, command-byte (c .before .before .before .pre .standing), c .command .ensures)
 
 max-size-requires : tie.Need-max-size-requires
 max-size-requires c κs = search (record-inside, needs)
@@ -34,32 +30,22 @@ add-put-head c = search needs
 
 put-head-requires : tie.Need-put-head-requires
 put-head-requires c κs =
-    let room = own-room (c .before .before .before .before .before .before .before .before .before .before .before .before .pre) (c .before .before .before .before .before .before .before .before .before .argument-width .ensures) in
+    let room = own-room (c .before .before .before .before .before .before .before .before .before .before .before .pre) (c .before .before .before .before .before .before .before .before .command .ensures) in
     (room .0, omega (arith, room .1, c .before .before .before .put-number .kept .0))
 
-add-result : tie.Need-add-result
-add-result c = search needs
-
-add-result-2 : tie.Need-add-result-2
-add-result-2 c = search needs
-
-add-result-3 : tie.Need-add-result-3
-add-result-3 c = omega (arith, own-room (c .before .before .before .before .before .before .before .before .before .before .before .before .before .before .before .pre) (c .before .before .before .before .before .before .before .before .before .before .before .before .argument-width .ensures) .1, c .before .before .before .before .before .before .before .before .before .before .before .before .before .before .before)
-
 same-length : tie.Need-same-length
-same-length c = c .before .before .put-head .kept .0 ∙ c .before .before .before .before .before .before .put-number .kept .0
+same-length c = search needs
 
 returns : tie.Need-returns
 returns c =
     let read = c .before .before .before .before .before .before .before in
     own-stored _ _ _ _ _ _ _ _ _ _ _ _ (c .before .before .before .before .before .before .put-number .ensures) (c .before .before .put-head .ensures) (read .offset .ensures) (read .before .before .before .before .command .ensures)
-    (read .before .before .before .max-size .ensures) (read .before .before .before .before .before .argument-width .ensures) (read .before .before .written-argument .ensures)
+    (read .before .before .before .max-size .ensures) (read .before .before .written-argument .ensures)
 
 pub write-own-spec : {M : Type 1} → statement M
 write-own-spec =
     tie.close
     (tie.spec
-    argument-width-requires
     command-requires
     cast-c
     max-size-requires
@@ -68,8 +54,5 @@ write-own-spec =
     put-number-requires
     add-put-head
     put-head-requires
-    add-result
-    add-result-2
-    add-result-3
     same-length
     returns)

@@ -7,13 +7,13 @@ use native.Mathlib.Omega.{arith}
 use borrow.Author.Needs.{needs}
 use lib.ListN.{length, length-append}
 use Rattle.definitions.specs.Usage.{Usage}
-use Rattle.definitions.specs.Command.{argumentWidth}
+use Rattle.records.specs.Words.{Width}
 use Rattle.records.specs.Records.{commandIn}
 use Rattle.records.specs.Usages.{At}
 use Rattle.records.proofs.Usages.{root-of}
-use Rattle.transfer.specs.Nodes.{Width, own}
+use Rattle.transfer.specs.Nodes.{ownWidth, own}
 use Rattle.transfer.specs.Writing.{Standing}
-use Rattle.transfer.proofs.Roots.{record-inside, command-byte, width-read, count-inside}
+use Rattle.transfer.proofs.Roots.{record-inside, command-byte, own-read, count-inside}
 use Rattle.transfer.proofs.Widths.{own-length, front-width}
 use Rattle.transfer.proofs.Writing.{Writing, node-standing, writing-none, writing-more, writing-done}
 use Rattle.transfer.proofs.written_length.Statement.{statement}
@@ -29,10 +29,10 @@ Inv-loop s q end i₀ front₀ n₀ i front n =
 abbrev μ-loop : tie.MeasureT-loop
 μ-loop s q end i₀ front₀ n₀ i front n = end - i
 
-longer : (s : List ℕ) (i front n : ℕ) {w : ℕ} → w ≡ argumentWidth (commandIn s i) → (text : List ℕ) (v : Usage) (o : ℕ) → At v s i o → LengthOf n text
-    → LengthOf (n + (front + 6 + w)) (text ++ own front o v)
+longer : (s : List ℕ) (i front n : ℕ) {w : ℕ} → w ≡ ownWidth (commandIn s i) → (text : List ℕ) (v : Usage) (o : ℕ) → At v s i o → LengthOf n text
+    → LengthOf (n + (front + w)) (text ++ own front o v)
 longer s i front n e text v o at h =
-    let width = e ∙ ap argumentWidth (root-of v s i o at .1 .command) in
+    let width = e ∙ ap ownWidth (root-of v s i o at .1 .command) in
     omega (arith, length-append text (own front o v), own-length front o v)
 
 nodes-requires : tie.Need-nodes-requires Inv-loop μ-loop
@@ -46,21 +46,18 @@ loop-holds c =
     let bounds = count-inside (c .before .before .pre) _ (c .nodes .ensures) in
     (writing-none _ _ _ refl (c .nodes .ensures), record { even = refl; small = omega arith }, omega arith, bounds .0, omega (arith, bounds .1), omega arith)
 
-add-n : tie.Need-add-n Inv-loop μ-loop
-add-n c = search needs
-
 -- the node of this turn
 node : (c : tie.In-loop Inv-loop μ-loop) → Standing (c .before .before .before .before .args .s .now) (c .before .loop .i)
 node c = node-standing (c .before .loop .inv .0) (c .before .before .before .before .pre) (c .loop-test .taken) (c .before .loop .inv .3) (omega arith)
 
-argument-width-requires : tie.Need-argument-width-requires Inv-loop μ-loop
-argument-width-requires c κs = (record-inside (node c), command-byte (node c))
+own-width-requires : tie.Need-own-width-requires Inv-loop μ-loop
+own-width-requires c κs = (record-inside (node c), command-byte (node c))
+
+add-n : tie.Need-add-n Inv-loop μ-loop
+add-n c = omega (arith, own-read (node (c .before)) (c .own-width .ensures))
 
 add-n-2 : tie.Need-add-n-2 Inv-loop μ-loop
-add-n-2 c = omega (arith, width-read (node (c .before)) (c .argument-width .ensures))
-
-add-n-3 : tie.Need-add-n-3 Inv-loop μ-loop
-add-n-3 c = omega (arith, width-read (node (c .before)) (c .argument-width .ensures))
+add-n-2 c = omega (arith, own-read (node (c .before)) (c .own-width .ensures))
 
 front-behind-requires : tie.Need-front-behind-requires Inv-loop μ-loop
 front-behind-requires c κs = search needs
@@ -74,8 +71,8 @@ loop-less c = search needs
 loop-again : tie.Need-loop-again Inv-loop μ-loop
 loop-again c =
     let inv = c .before .before .before .loop .inv in
-    let width = c .before .argument-width .ensures in
-    (writing-more (inv .0) (c .before .before .loop-test .taken) (c .front-behind .ensures) (longer _ _ _ _ width), rw (c .front-behind .ensures) (front-width _), omega arith, inv .3, inv .4, omega (arith, width-read (node (c .before .before)) width))
+    let width = c .before .own-width .ensures in
+    (writing-more (inv .0) (c .before .before .loop-test .taken) (c .front-behind .ensures) (longer _ _ _ _ width), rw (c .front-behind .ensures) (front-width _), omega arith, inv .3, inv .4, omega (arith, own-read (node (c .before .before)) width))
 
 returns : tie.Need-returns Inv-loop μ-loop
 returns c = record { of = writing-done (c .before .loop .inv .0) (c .loop-test .left) }
@@ -89,10 +86,9 @@ written-length-spec =
     nodes-requires
     add-end
     loop-holds
+    own-width-requires
     add-n
-    argument-width-requires
     add-n-2
-    add-n-3
     front-behind-requires
     add-i
     loop-less
