@@ -33,6 +33,7 @@ module _ (s : List ℕ) (at : ℕ) where
       let long : at + 4 + n - (at + 4) ≡ n = omega arith in
       record {
         reads = rw (word-number s at (omega arith), ← e, le-ltb (length (drop (at + 4) s)) n (rw length-drop (omega arith)), drop-drop, long);
+        ends = rw e;
         some = omega arith;
         within = h;
       }
