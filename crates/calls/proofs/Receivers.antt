@@ -4,7 +4,7 @@ use Prim.Native.Nat.{ℕ, _+_, _<_, _≤_}
 use mathlib.Core.Path.{_≡_, refl}
 use mathlib.Core.Bool.{Bool, true, false}
 use mathlib.Core.List.{List, []}
-use mathlib.Core.Option.{none as nothing}
+use mathlib.Core.Option.{Option, none as nothing, some}
 use native.Mathlib.Omega.{arith}
 use borrow.Author.Tests.{lt-ltb, le-ltb}
 use Rattle.definitions.specs.If.{if_then_else_}
@@ -15,10 +15,8 @@ use Rattle.definitions.specs.Place.{Result, refused, done}
 use Rattle.definitions.specs.Calls.{receiverOf, partOf, receiverCall}
 use Rattle.qptr.specs.Values.{Receives}
 use Rattle.qptr.specs.declared.Node.{Node}
-use Rattle.calls.specs.Received.{receivedOf}
+use Rattle.calls.specs.Received.{answered}
 use Rattle.calls.specs.Roots.{RootOf}
-use Rattle.calls.specs.declared.Received.{Received}
-use Rattle.calls.specs.declared.Received.the-variants.{Nobody, First, Second}
 
 module _ (first second : List ℕ) where
   pub bad-first : memoryOf first ≡ nothing → receiverOf first second ≡ refused 3
@@ -41,16 +39,16 @@ module _ (first second : List ℕ) where
           rw (a .is, b .is, le-ltb nodeLimit (nodes (a .usage) + nodes (b .usage)) (omega arith), says .of (a .usage) (b .usage) (a .own) (b .own))
 
 -- the part that is handed back
-abbrev partBy : Received → List ℕ → List ℕ → List ℕ
-partBy Nobody first second = []
-partBy First first second = first
-partBy Second first second = second
+abbrev partBy : Option Bool → List ℕ → List ℕ → List ℕ
+partBy nothing first second = []
+partBy (some true) first second = first
+partBy (some false) first second = second
 
-part-is : (r : Result Bool) (first second : List ℕ) → partBy (receivedOf r) first second ≡ partOf r first second
+part-is : (r : Result Bool) (first second : List ℕ) → partBy (answered r) first second ≡ partOf r first second
 part-is (refused k) first second = refl
 part-is (done true w p) first second = refl
 part-is (done false w p) first second = refl
 
-pub handed : {x : Received} (first second : List ℕ) → x ≡ receivedOf (receiverOf first second) → partBy x first second ≡ receiverCall first second
+pub handed : {x : Option Bool} (first second : List ℕ) → x ≡ answered (receiverOf first second) → partBy x first second ≡ receiverCall first second
 unfolding receiverCall
 handed first second e = rw e (part-is (receiverOf first second) first second)

@@ -6,7 +6,7 @@ ghost use Rattle.definitions.specs.Calls.{receiverOf, receiverCall, soundCall, 
 ghost use Rattle.answers.specs.Answers.{answerOf};
 ghost use Rattle.answers.specs.Writing.{Gives};
 ghost use Rattle.serving.specs.Promised.{Promised};
-ghost use Rattle.calls.specs.Received.{receivedOf};
+ghost use Rattle.calls.specs.Received.{firstOf, answered};
 ghost use Rattle.calls.specs.Roots.{Rooted};
 use answers::Answer;
 use inputs::NODES;
@@ -44,7 +44,7 @@ fn root_of(s: &[u8]) -> Root
 
 // Which of two Memory streams receives the other; nobody where one is broken or both have too many nodes.
 pub fn receiving(first: &[u8], second: &[u8]) -> Received
-    ensures { λ r. ⌜ r ≡ receivedOf (receiverOf (now (first .entry)) (now (second .entry))) ⌝ }
+    ensures { λ r. ⌜ firstOf r ≡ answered (receiverOf (now (first .entry)) (now (second .entry))) ⌝ }
 {
     let Root::Memory { nodes: n, node: a } = root_of(first) else {
         return Received::Nobody;

@@ -4,15 +4,15 @@ use Prim.Native.Nat.{ℕ}
 use mathlib.Core.Path.{_≡_}
 use mathlib.Core.Bool.{Bool, true, false}
 use mathlib.Core.List.{List, [], _∷_}
+use mathlib.Core.Option.{Option, none as nothing, some}
 use Rattle.definitions.specs.Calls.{Answer, Written}
 use Rattle.serving.specs.Promised.{Promised}
-use Rattle.calls.specs.declared.Received.{Received}
-use Rattle.calls.specs.declared.Received.the-variants.{Nobody, First, Second}
 
-abbrev pub numberOf : Received → ℕ
-numberOf Nobody = 0
-numberOf First = 1
-numberOf Second = 2
+-- nobody receives, the first stream or the second
+abbrev pub numberOf : Option Bool → ℕ
+numberOf nothing = 0
+numberOf (some true) = 1
+numberOf (some false) = 2
 
 abbrev pub bit : Bool → ℕ
 bit false = 0

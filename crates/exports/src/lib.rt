@@ -3,13 +3,13 @@ ghost use mathlib.Core.Path.{_≡_};
 ghost use lib.ListN.{length};
 ghost use Rattle.definitions.specs.Calls.{receiverOf, soundCall, supportsCall, placeCall, mergeCall, foldCall};
 ghost use Rattle.answers.specs.Answers.{answerOf};
-ghost use Rattle.calls.specs.Received.{receivedOf};
+ghost use Rattle.calls.specs.Received.{firstOf, answered};
 ghost use Rattle.exports.specs.Numbers.{numberOf, bit, numbersOf, Leaves, LeavesPromised};
 use answers::Answer;
 use calls::Received;
 
 fn number(r: Received) -> u32
-    ensures { λ n. ⌜ n ≡ numberOf r ⌝ }
+    ensures { λ n. ⌜ n ≡ numberOf (firstOf r) ⌝ }
 {
     match r {
         Received::Nobody => 0,
@@ -21,7 +21,7 @@ fn number(r: Received) -> u32
 // 0 nobody, 1 the first, 2 the second.
 #[no_mangle]
 pub extern "C" fn qptr_receiver(first: &[u8], second: &[u8]) -> u32
-    ensures { λ r. ⌜ r ≡ numberOf (receivedOf (receiverOf (now (first .entry)) (now (second .entry)))) ⌝ }
+    ensures { λ r. ⌜ r ≡ numberOf (answered (receiverOf (now (first .entry)) (now (second .entry)))) ⌝ }
 {
     number(calls::receiving(first, second))
 }

@@ -32,6 +32,7 @@ module _ (s : List ℕ) (at : ℕ) where
       let long : at + 4 + n - (at + 4) ≡ n = omega arith in
       record {
         reads = rw (number-at 4 s at (at + 4) refl (omega arith), ← e, le-ltb (length (drop (at + 4) s)) n (rw length-drop (omega arith)), drop-drop, long);
+        ends = rw e;
         some = omega arith;
         within = h;
       }

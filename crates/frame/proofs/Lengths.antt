@@ -8,14 +8,15 @@ use mathlib.Core.Option.{Option, none as nothing, some}
 use native.Mathlib.Omega.{arith}
 use borrow.Author.Tests.{ltb-false}
 use lib.Dec.{ltb}
-use lib.ListN.{length, take, length-append, length-take, length-drop, length-replicate}
+use lib.ListN.{length, take, drop, length-append, length-take, length-drop, length-replicate}
+use lib.Seq.{getD-drop, ext-getD}
 use Rattle.definitions.specs.Limits.{workLimit}
 use Rattle.definitions.specs.Usage.{topNodes}
 use Rattle.definitions.specs.Stream.{writeTop, topOf}
 use Rattle.definitions.specs.Place.{Result, refused, done, under, merge}
 use Rattle.definitions.specs.Calls.{Written, given, withTable, topTypesIn, checked, kept, written, mergeCall}
 use Rattle.definitions.proofs.Choice.{either, decide}
-use Rattle.report.specs.Emitted.{Emitted}
+use Rattle.frame.specs.Put.{Put}
 use Rattle.report.proofs.Emitting.{emitted-all}
 use Rattle.frame.specs.Frame.{Blocks, blocksOf, digitsIn, hexDigits, hex, bufferLength, zeros, answerLine, lineFor, lineOf, lineLimit, Line}
 
@@ -96,8 +97,13 @@ unfolding lineOf
 line-short input = line-for-short (blocksOf input)
 
 -- a buffer that holds the longest line
-pub line-held : {input buffer buffer′ : List ℕ} {n : ℕ} → Emitted buffer 0 (lineOf input) buffer′ n → lineLimit ≤ length buffer → Line input buffer′ n
-line-held {input} {buffer} {buffer′} {n} E room =
+pub line-held : {input buffer buffer′ : List ℕ} {n : ℕ} → Put buffer 0 (lineOf input) buffer′ n → lineLimit ≤ length buffer → Line input buffer buffer′ n
+line-held {input} {buffer} {buffer′} {n} P room =
     let short : length (lineOf input) ≤ lineLimit = line-short input in
-    let all : (n ≡ length (lineOf input)) × (length (lineOf input) ≤ length buffer → take (length (lineOf input)) buffer′ ≡ lineOf input) = emitted-all E (omega arith) in
-    record { within = omega arith; is = rw (all .0) (all .1 (omega arith)) }
+    let all : (n ≡ length (lineOf input)) × (length (lineOf input) ≤ length buffer → take (length (lineOf input)) buffer′ ≡ lineOf input) = emitted-all (P .emitted) (omega arith) in
+    let same : length buffer′ ≡ length buffer = P .emitted .size in
+    record {
+      within = omega arith;
+      is = rw (all .0) (all .1 (omega arith));
+      rest = ext-getD 0 (drop n buffer′) (drop n buffer) (simp length-drop (omega arith)) (λ i lt. rw (getD-drop n buffer′ i 0, getD-drop n buffer i 0) (P .behind (omega arith) (n + i) (omega arith)));
+    }

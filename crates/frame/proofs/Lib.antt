@@ -1,3 +1,4 @@
+pub mod Putting
 pub mod Framing
 pub mod Showing
 pub mod Lengths

@@ -8,8 +8,8 @@ use native.Mathlib.Omega.{arith}
 use lib.ListN.{length, take}
 use Rattle.definitions.specs.Limits.{workLimit}
 use Rattle.definitions.specs.Calls.{Answer as Told, Written, mergeCall}
-use Rattle.report.specs.Emitted.{Emitted}
-use Rattle.report.proofs.Emitting.{emitted-after}
+use Rattle.frame.specs.Put.{Put}
+use Rattle.frame.proofs.Putting.{put-after}
 use Rattle.answers.specs.Writing.{Gives}
 use Rattle.answers.specs.declared.Answer.{Answer}
 use Rattle.frame.specs.Frame.{blocksOf, digits, hex, bufferLength, zeros, answerLine, lineFor, lineOf}
@@ -19,18 +19,18 @@ use Rattle.frame.proofs.Lengths.{Held, merge-held, zeros-length}
 
 -- four pieces, each with a byte behind it
 module _ {line line₁ line₂ line₃ line₄ : List ℕ} {p₁ p₂ p₃ p₄ : ℕ} where
-  pieces : (xs ys zs us : List ℕ) (x y z u : ℕ) → Emitted line 0 (xs ++ x ∷ []) line₁ p₁ → Emitted line₁ p₁ (ys ++ y ∷ []) line₂ p₂
-      → Emitted line₂ p₂ (zs ++ z ∷ []) line₃ p₃ → Emitted line₃ p₃ (us ++ u ∷ []) line₄ p₄
-      → Emitted line 0 (xs ++ x ∷ ys ++ y ∷ zs ++ z ∷ us ++ u ∷ []) line₄ p₄
-  pieces xs ys zs us x y z u A B C D = simp append-assoc (simp append-assoc at (emitted-after A (emitted-after B (emitted-after C D))))
+  pieces : (xs ys zs us : List ℕ) (x y z u : ℕ) → Put line 0 (xs ++ x ∷ []) line₁ p₁ → Put line₁ p₁ (ys ++ y ∷ []) line₂ p₂
+      → Put line₂ p₂ (zs ++ z ∷ []) line₃ p₃ → Put line₃ p₃ (us ++ u ∷ []) line₄ p₄
+      → Put line 0 (xs ++ x ∷ ys ++ y ∷ zs ++ z ∷ us ++ u ∷ []) line₄ p₄
+  pieces xs ys zs us x y z u A B C D = simp append-assoc (simp append-assoc at (put-after A (put-after B (put-after C D))))
 
-  pub answer-emitted : (a : Answer) (output report : List ℕ)
-      → Emitted line 0 (digits (a .number) ++ 0x20 ∷ []) line₁ p₁
-      → Emitted line₁ p₁ (digits (a .pairings) ++ 0x20 ∷ []) line₂ p₂
-      → Emitted line₂ p₂ (hex (take (a .usage) output) ++ 0x20 ∷ []) line₃ p₃
-      → Emitted line₃ p₃ (hex (take (a .report) report) ++ 0x0A ∷ []) line₄ p₄
-      → Emitted line 0 (answerLine (written a output report)) line₄ p₄
-  answer-emitted a output report = pieces (digits (a .number)) (digits (a .pairings)) (hex (take (a .usage) output)) (hex (take (a .report) report)) 0x20 0x20 0x20 0x0A
+  pub answer-put : (a : Answer) (output report : List ℕ)
+      → Put line 0 (digits (a .number) ++ 0x20 ∷ []) line₁ p₁
+      → Put line₁ p₁ (digits (a .pairings) ++ 0x20 ∷ []) line₂ p₂
+      → Put line₂ p₂ (hex (take (a .usage) output) ++ 0x20 ∷ []) line₃ p₃
+      → Put line₃ p₃ (hex (take (a .report) report) ++ 0x0A ∷ []) line₄ p₄
+      → Put line 0 (answerLine (written a output report)) line₄ p₄
+  answer-put a output report = pieces (digits (a .number)) (digits (a .pairings)) (hex (take (a .usage) output)) (hex (take (a .report) report)) 0x20 0x20 0x20 0x0A
 
 same-written : {x x′ : Told} {o o′ r r′ : List ℕ} → x ≡ x′ → o ≡ o′ → r ≡ r′
     → _≡_ {A = Written} (record { answer = x; output = o; report = r }) (record { answer = x′; output = o′; report = r′ })
@@ -59,12 +59,12 @@ merge-given table first second work output report {a} {output′} {report′} wo
 
 -- The line of an input
 
-pub not-framed : (input : List ℕ) {line line′ : List ℕ} {n : ℕ} → blocksOf input ≡ nothing → Emitted line 0 (lineFor nothing) line′ n → Emitted line 0 (lineOf input) line′ n
+pub not-framed : (input : List ℕ) {line line′ : List ℕ} {n : ℕ} → blocksOf input ≡ nothing → Put line 0 (lineFor nothing) line′ n → Put line 0 (lineOf input) line′ n
 unfolding lineOf
 not-framed input e E = rw e E
 
 pub is-framed : {input line line′ : List ℕ} {n table first second : ℕ} → BlocksAt input table first second
-    → Emitted line 0 (lineFor (some (record { table = between input 4 table; first = between input (table + 4) first; second = between input (first + 4) second }))) line′ n
-    → Emitted line 0 (lineOf input) line′ n
+    → Put line 0 (lineFor (some (record { table = between input 4 table; first = between input (table + 4) first; second = between input (first + 4) second }))) line′ n
+    → Put line 0 (lineOf input) line′ n
 unfolding lineOf
 is-framed b E = rw (b .is) E

@@ -9,8 +9,8 @@ use borrow.Author.Tests.{lt-ltb, le-ltb}
 use lib.ListN.{length, getD, take}
 use lib.Seq.{take-suc, take-all}
 use Rattle.definitions.specs.If.{if_then_else_}
-use Rattle.report.specs.Emitted.{Emitted}
-use Rattle.report.proofs.Emitting.{emitted-after}
+use Rattle.frame.specs.Put.{Put}
+use Rattle.frame.proofs.Putting.{put-after}
 use Rattle.frame.specs.Frame.{digitsIn, hexDigit, hexDigits, hex}
 
 pub no-digits : (most n : ℕ) → most ≡ 0 → digitsIn most n ≡ []
@@ -43,20 +43,20 @@ hex-append (x ∷ xs) ys = rw (hex-append xs ys)
 -- the first i bytes are emitted
 pub record Shown (s line₀ : List ℕ) (at : ℕ) (line : List ℕ) (p i : ℕ) : Type 0 where
   pub upto : i ≤ length s
-  pub digits : Emitted line₀ at (hexDigits (take i s)) line p
+  pub digits : Put line₀ at (hexDigits (take i s)) line p
 
 pub shown-more : {s line₀ : List ℕ} {at : ℕ} {line : List ℕ} {p i : ℕ} {line₁ : List ℕ} {p₁ : ℕ} {line₂ : List ℕ} {p₂ x y : ℕ}
     → Shown s line₀ at line p i → i < length s
-    → x ≡ hexDigit (getD s i 0 / 16) → Emitted line p (x ∷ []) line₁ p₁
-    → y ≡ hexDigit (getD s i 0 % 16) → Emitted line₁ p₁ (y ∷ []) line₂ p₂
+    → x ≡ hexDigit (getD s i 0 / 16) → Put line p (x ∷ []) line₁ p₁
+    → y ≡ hexDigit (getD s i 0 % 16) → Put line₁ p₁ (y ∷ []) line₂ p₂
     → Shown s line₀ at line₂ p₂ (i + 1)
 shown-more {s} {i} S h e X e′ Y =
     record {
       upto = omega arith;
-      digits = rw (add-one i, take-suc s i 0 h, hex-append, ← e, ← e′) (emitted-after (S .digits) (emitted-after X Y));
+      digits = rw (add-one i, take-suc s i 0 h, hex-append, ← e, ← e′) (put-after (S .digits) (put-after X Y));
     }
 
-pub shown-all : {s line₀ : List ℕ} {at : ℕ} {line : List ℕ} {p i : ℕ} → Shown s line₀ at line p i → length s ≤ i → Emitted line₀ at (hexDigits s) line p
+pub shown-all : {s line₀ : List ℕ} {at : ℕ} {line : List ℕ} {p i : ℕ} → Shown s line₀ at line p i → length s ≤ i → Put line₀ at (hexDigits s) line p
 shown-all {s} {i} S h = rw (take-all i s h) at (S .digits)
 
 pub hex-none : (s : List ℕ) → length s ≡ 0 → hex s ≡ 0x2D ∷ []

@@ -82,7 +82,8 @@ lineOf input = lineFor (blocksOf input)
 abbrev pub lineLimit : ℕ
 lineLimit = 2 * 10 + 2 * (2 * bufferLength) + 4
 
--- the first n bytes of a buffer are the line
-pub record Line (input buffer : List ℕ) (n : ℕ) : Type 0 where
-  pub within : n ≤ length buffer
-  pub is : take n buffer ≡ lineOf input
+-- the first n bytes of a buffer are the line, and the rest is as it was
+pub record Line (input buffer buffer′ : List ℕ) (n : ℕ) : Type 0 where
+  pub within : n ≤ length buffer′
+  pub is : take n buffer′ ≡ lineOf input
+  pub rest : drop n buffer′ ≡ drop n buffer

@@ -1,3 +1,4 @@
 pub mod Frame
 pub mod Places
 pub mod Answered
+pub mod Put

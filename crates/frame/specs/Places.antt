@@ -6,6 +6,7 @@ use mathlib.Core.List.{List}
 use mathlib.Core.Option.{none as nothing, some}
 use lib.ListN.{length, take, drop}
 use Rattle.definitions.specs.Stream.{broken, read}
+use Rattle.records.specs.Words.{word}
 use Rattle.frame.specs.Frame.{Blocks, readBlock, blocksOf}
 use Rattle.frame.specs.declared.End.{End}
 use Rattle.frame.specs.declared.End.the-variants as ends
@@ -19,6 +20,7 @@ between s from to = take (to - from) (drop from s)
 -- the block at a place of s ends at `end`
 pub record BlockAt (s : List ℕ) (at end : ℕ) : Type 0 where
   pub reads : readBlock (drop at s) ≡ read (between s (at + 4) end) (drop end s)
+  pub ends : end ≡ at + 4 + word s at
   pub some : at + 4 ≤ end
   pub within : end ≤ length s
 

@@ -4,13 +4,12 @@ ghost use Prim.Native.Nat.{_≤_, _<_};
 ghost use mathlib.Core.List.{[], _∷_, _++_};
 ghost use mathlib.Core.Option.{none as nothing, some};
 ghost use lib.ListN.{length};
-ghost use Rattle.report.specs.Emitted.{Emitted};
+ghost use Rattle.frame.specs.Put.{Put};
 ghost use Rattle.frame.specs.Frame.{digitsIn, digits, hexDigit, hexDigits, hex, zeros, answerLine, lineFor, lineOf, lineLimit, Line};
 ghost use Rattle.frame.specs.Places.{Ends, Framed};
 ghost use Rattle.frame.specs.Answered.{written};
 use answers::Answer;
 use records::get32;
-use report::byte;
 
 // The longest input.
 const INPUT: usize = 65536;
@@ -83,9 +82,19 @@ pub fn blocks(s: &[u8]) -> Frame
     }
 }
 
+// One byte more, if the buffer has room for it. Nothing else changes.
+fn byte(line: &mut [u8], at: usize, b: u8) -> usize
+    ensures { λ r. ⌜ Put (now (line .entry)) at (b ∷ []) (now (line .exit)) r ⌝ }
+{
+    if at < line.len() {
+        line[at] = b;
+    }
+    std::num::wrapping_add_usize(at, 1)
+}
+
 // A number's digits, of which there are at most `most`.
 fn digits_in(line: &mut [u8], at: usize, most: u32, n: u32) -> usize
-    ensures { λ r. ⌜ Emitted (now (line .entry)) at (digitsIn most n) (now (line .exit)) r ⌝ }
+    ensures { λ r. ⌜ Put (now (line .entry)) at (digitsIn most n) (now (line .exit)) r ⌝ }
 {
     if most == 0 {
         return at;
@@ -105,7 +114,7 @@ fn hex_digit(n: u8) -> u8
 }
 
 fn hex_digits(line: &mut [u8], at: usize, s: &[u8]) -> usize
-    ensures { λ r. ⌜ Emitted (now (line .entry)) at (hexDigits (now (s .entry))) (now (line .exit)) r ⌝ }
+    ensures { λ r. ⌜ Put (now (line .entry)) at (hexDigits (now (s .entry))) (now (line .exit)) r ⌝ }
 {
     let mut p = at;
     let mut i = 0;
@@ -120,7 +129,7 @@ fn hex_digits(line: &mut [u8], at: usize, s: &[u8]) -> usize
 
 // Bytes in lowercase hex, or `-` if there are none.
 fn hex(line: &mut [u8], at: usize, s: &[u8]) -> usize
-    ensures { λ r. ⌜ Emitted (now (line .entry)) at (hex (now (s .entry))) (now (line .exit)) r ⌝ }
+    ensures { λ r. ⌜ Put (now (line .entry)) at (hex (now (s .entry))) (now (line .exit)) r ⌝ }
 {
     if s.len() == 0 {
         return byte(line, at, NONE);
@@ -130,7 +139,7 @@ fn hex(line: &mut [u8], at: usize, s: &[u8]) -> usize
 
 // A number and a space.
 fn number(line: &mut [u8], at: usize, n: u32) -> usize
-    ensures { λ r. ⌜ Emitted (now (line .entry)) at (digits n ++ 0x20 ∷ []) (now (line .exit)) r ⌝ }
+    ensures { λ r. ⌜ Put (now (line .entry)) at (digits n ++ 0x20 ∷ []) (now (line .exit)) r ⌝ }
 {
     let next = digits_in(line, at, DIGITS, n);
     byte(line, next, SPACE)
@@ -138,7 +147,7 @@ fn number(line: &mut [u8], at: usize, n: u32) -> usize
 
 // Bytes in hex, and the byte behind them.
 fn text(line: &mut [u8], at: usize, s: &[u8], behind: u8) -> usize
-    ensures { λ r. ⌜ Emitted (now (line .entry)) at (hex (now (s .entry)) ++ behind ∷ []) (now (line .exit)) r ⌝ }
+    ensures { λ r. ⌜ Put (now (line .entry)) at (hex (now (s .entry)) ++ behind ∷ []) (now (line .exit)) r ⌝ }
 {
     let next = hex(line, at, s);
     byte(line, next, behind)
@@ -146,7 +155,7 @@ fn text(line: &mut [u8], at: usize, s: &[u8], behind: u8) -> usize
 
 // `frame`
 fn broken(line: &mut [u8]) -> usize
-    ensures { λ r. ⌜ Emitted (now (line .entry)) 0 (lineFor nothing) (now (line .exit)) r ⌝ }
+    ensures { λ r. ⌜ Put (now (line .entry)) 0 (lineFor nothing) (now (line .exit)) r ⌝ }
 {
     let mut at = byte(line, 0, 0x66);
     at = byte(line, at, 0x72);
@@ -159,7 +168,7 @@ fn broken(line: &mut [u8]) -> usize
 // Number, pairings, output and report.
 fn answer(line: &mut [u8], a: Answer, output: &[u8], rep: &[u8]) -> usize
     requires { ⌜ (a .usage ≤ length (now output)) × (a .report ≤ length (now rep)) ⌝ }
-    ensures { λ r. ⌜ Emitted (now (line .entry)) 0 (answerLine (written a (now (output .entry)) (now (rep .entry)))) (now (line .exit)) r ⌝ }
+    ensures { λ r. ⌜ Put (now (line .entry)) 0 (answerLine (written a (now (output .entry)) (now (rep .entry)))) (now (line .exit)) r ⌝ }
 {
     let usage = a.usage;
     let report = a.report;
@@ -184,7 +193,7 @@ fn zeros() -> [u8; 16384]
 
 // The line of a merge.
 fn merged(line: &mut [u8], table: &[u8], first: &[u8], second: &[u8]) -> usize
-    ensures { λ r. ⌜ Emitted (now (line .entry)) 0 (lineFor (some (record { table = now (table .entry); first = now (first .entry); second = now (second .entry) }))) (now (line .exit)) r ⌝ }
+    ensures { λ r. ⌜ Put (now (line .entry)) 0 (lineFor (some (record { table = now (table .entry); first = now (first .entry); second = now (second .entry) }))) (now (line .exit)) r ⌝ }
 {
     let mut work = work_area();
     let mut output = zeros();
@@ -195,7 +204,7 @@ fn merged(line: &mut [u8], table: &[u8], first: &[u8], second: &[u8]) -> usize
 
 // The line for an input, as far as the buffer goes.
 fn printed(input: &[u8], line: &mut [u8]) -> usize
-    ensures { λ r. ⌜ Emitted (now (line .entry)) 0 (lineOf (now (input .entry))) (now (line .exit)) r ⌝ }
+    ensures { λ r. ⌜ Put (now (line .entry)) 0 (lineOf (now (input .entry))) (now (line .exit)) r ⌝ }
 {
     let Frame::Blocks {
         table,
@@ -210,10 +219,11 @@ fn printed(input: &[u8], line: &mut [u8]) -> usize
     merged(line, &input[4..table], &input[a..first], &input[b..second])
 }
 
-// The line for an input: it stands at the start of the buffer, which holds the longest one, and this is its length.
+// The line for an input: it stands at the start of the buffer, which holds the longest one, and this is its length. The rest of the
+// buffer is kept.
 pub fn line(input: &[u8], buffer: &mut [u8]) -> usize
     requires { ⌜ lineLimit ≤ length (now buffer) ⌝ }
-    ensures { λ r. ⌜ Line (now (input .entry)) (now (buffer .exit)) r ⌝ }
+    ensures { λ r. ⌜ Line (now (input .entry)) (now (buffer .entry)) (now (buffer .exit)) r ⌝ }
 {
     printed(input, buffer)
 }

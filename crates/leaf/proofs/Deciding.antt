@@ -1,14 +1,12 @@
--- A type's answer decides as rule 4 does: a layout that is not concrete by itself, a concrete one by what it supports.
+-- A type's answer decides as rule 4 does.
 -- Assumes nothing.
 use Prim.Native.Nat.{ℕ}
-use mathlib.Core.Path.{_≡_, refl}
-use mathlib.Core.Bool.{Bool, true, false}
-use Rattle.definitions.specs.If.{if_then_else_}
+use mathlib.Core.Path.{_≡_, refl, _∙_}
+use mathlib.Core.Bool.{true}
 use Rattle.definitions.specs.Usage.{Usage}
-use Rattle.definitions.specs.Table.{Setting, TypeLayout, concrete, handle, failed, layoutOf}
-use Rattle.definitions.specs.Support.{supports}
+use Rattle.definitions.specs.Table.{Setting}
 use Rattle.definitions.specs.Place.{Kept as KeptType, asked}
-use Rattle.support.specs.Answers.{answerOf}
+use Rattle.support.specs.Answers.{keptBy}
 use Rattle.support.specs.declared.Asked.{Asked}
 use Rattle.support.specs.declared.Asked.the-variants.{No, Yes, Handle, Failed}
 use Rattle.leaf.specs.Leaves.{keptOf, isNo, decided}
@@ -32,13 +30,9 @@ is-no Handle e = cc
 is-no Failed e = cc
 
 -- what would follow from No need be right only there
-pub decides : (setting : Setting) (ty d : ℕ) (u : Usage) (a : Asked) (other : Kept) (x : KeptType) → a ≡ answerOf (layoutOf (setting .table) ty) (supports setting ty d u)
+pub decides : (setting : Setting) (ty d : ℕ) (u : Usage) (a : Asked) (other : Kept) (x : KeptType) → ((y : KeptType) → keptBy a ty y ≡ asked setting ty d u y)
     → (a ≡ No → keptOf other ≡ x) → keptOf (decided a ty other) ≡ asked setting ty d u x
-unfolding if_then_else_
-decides setting ty d u a other x e same = go (layoutOf (setting .table) ty) refl (supports setting ty d u) refl
-  where
-    go : (l : TypeLayout) → layoutOf (setting .table) ty ≡ l → (b : Bool) → supports setting ty d u ≡ b → keptOf (decided a ty other) ≡ asked setting ty d u x
-    go (concrete n s cs) el true eb = rw (e, el, asked, eb)
-    go (concrete n s cs) el false eb = rw (e, el, asked, eb) (same (rw (e, el, eb)))
-    go handle el b eb = rw (e, el, asked)
-    go failed el b eb = rw (e, el, asked)
+decides setting ty d u No other x e same = same refl ∙ e x
+decides setting ty d u Yes other x e same = e x
+decides setting ty d u Handle other x e same = e x
+decides setting ty d u Failed other x e same = e x

@@ -1,4 +1,4 @@
--- Where the parts of a record lie: what keeps every index in range.
+-- Where the parts of a record lie, and what keeps every index in range.
 -- Assumes nothing.
 use Prim.Native.Nat.{ℕ, _+_, _-_, _≤_}
 use mathlib.Core.Path.{_≡_}
@@ -11,6 +11,19 @@ use Rattle.replaying.specs.declared.Record.{Record}
 use Rattle.replaying.specs.declared.Record.the-variants as records
 use Rattle.replaying.specs.declared.Ran.{Ran}
 use Rattle.replaying.specs.declared.Ran.the-variants as rans
+
+-- where the table, the first stream and the second one end, each with its length in front
+abbrev pub tableEnd : List ℕ → ℕ
+tableEnd s = 17 + word s 13
+
+abbrev pub firstEnd : List ℕ → ℕ
+firstEnd s = tableEnd s + 4 + word s (tableEnd s)
+
+abbrev pub secondEnd : List ℕ → ℕ
+secondEnd s = firstEnd s + 4 + word s (firstEnd s)
+
+unfoldable pub partsOf : List ℕ → Parts
+partsOf s = record { table = tableEnd s; first = firstEnd s; second = secondEnd s }
 
 -- the buffers hold what was written, and the record ends with it
 pub record Fits (s : List ℕ) (second : ℕ) : Type 0 where
@@ -30,6 +43,7 @@ pub record Whole (s : List ℕ) (p : Parts) : Type 0 where
   pub table : 17 ≤ p .table
   pub first : p .table + 4 ≤ p .first
   pub second : p .first + 4 ≤ p .second
+  pub is : p ≡ partsOf s
   pub inside : p .second + 30 ≤ length s
   pub fits : Fits s (p .second)
 

@@ -3,9 +3,12 @@
 ghost use mathlib.Core.Path.{_≡_};
 ghost use Prim.Native.Nat.{_+_, _≤_};
 ghost use mathlib.Core.Bool.{true};
-ghost use lib.ListN.{length, replicate};
+ghost use lib.ListN.{length, getD, replicate};
 ghost use Rattle.records.specs.Words.{word};
+ghost use Rattle.answers.specs.Answers.{answerOf};
+ghost use Rattle.answers.specs.Writing.{Gives};
 ghost use Rattle.replaying.specs.Parts.{Begins, Fits, Sized, Whole, Reads, Single};
+ghost use Rattle.replaying.specs.Agrees.{bit, Says, Holds, called, Writes, Agrees, Counted, Agreed};
 use answers::Answer;
 use check::same;
 use frame::End;
@@ -142,7 +145,7 @@ fn parts_of(s: &[u8]) -> Record
 }
 
 fn flag(yes: bool) -> u32
-    ensures { λ r. ⌜ r ≤ 1 ⌝ }
+    ensures { λ r. ⌜ r ≡ bit yes ⌝ }
 {
     if yes { 1 } else { 0 }
 }
@@ -150,6 +153,7 @@ fn flag(yes: bool) -> u32
 // Are the five numbers at `at` these?
 fn answered(s: &[u8], at: usize, a: Answer) -> bool
     requires { ⌜ at + 20 ≤ length (now s) ⌝ }
+    ensures { λ r. ⌜ (r ≡ true → Says (now (s .entry)) at (answerOf a)) ⌝ }
 {
     if get32(s, at) != a.number {
         return false;
@@ -169,6 +173,7 @@ fn answered(s: &[u8], at: usize, a: Answer) -> bool
 // For the receiver the number is 0, 1 or 2: an empty part, the first stream or the second.
 fn receiver(s: &[u8], p: Parts) -> bool
     requires { ⌜ Whole (now s) p ⌝ }
+    ensures { λ r. ⌜ (r ≡ true → Agrees (now (s .entry)) p 0) ⌝ }
 {
     let a = p.table + 4;
     let b = p.first;
@@ -192,6 +197,7 @@ fn work_area() -> [u8; 49160]
 
 fn supports(s: &[u8], p: Parts) -> bool
     requires { ⌜ Whole (now s) p ⌝ }
+    ensures { λ r. ⌜ (r ≡ true → Agrees (now (s .entry)) p 1) ⌝ }
 {
     let mut work = work_area();
     let n = get32(s, WORK_AT) as usize;
@@ -206,6 +212,7 @@ fn supports(s: &[u8], p: Parts) -> bool
 
 fn sound(s: &[u8], p: Parts) -> bool
     requires { ⌜ Whole (now s) p ⌝ }
+    ensures { λ r. ⌜ (r ≡ true → Agrees (now (s .entry)) p 5) ⌝ }
 {
     let mut work = work_area();
     let n = get32(s, WORK_AT) as usize;
@@ -257,6 +264,7 @@ fn begins(buf: &[u8], bytes: &[u8], rest: u8) -> bool
 fn wrote(s: &[u8], second: usize, output: &[u8], rep: &[u8]) -> bool
     requires { ⌜ Fits (now s) second ⌝ }
     requires { ⌜ (word (now s) second ≡ length (now output)) × (word (now s) (second + 5) ≡ length (now rep)) ⌝ }
+    ensures { λ r. ⌜ (r ≡ true → Holds (now (s .entry)) second (now (output .entry)) (now (rep .entry))) ⌝ }
 {
     let usage = second + WRITTEN_AT;
     let report = usage + get32(s, second + USAGE_AT) as usize;
@@ -266,9 +274,10 @@ fn wrote(s: &[u8], second: usize, output: &[u8], rep: &[u8]) -> bool
     begins(rep, &s[report..], 0)
 }
 
-// Place, merge or fold.
+// Place, merge or else fold.
 fn call(s: &[u8], p: Parts, output: &mut [u8], rep: &mut [u8]) -> Answer
     requires { ⌜ Whole (now s) p ⌝ }
+    ensures { λ r. ⌜ Gives (called (getD (now (s .entry)) 0 0) (now (s .entry)) p (now (output .entry)) (length (now (rep .entry)))) r (now (output .exit)) (now (rep .exit)) ⌝ }
 {
     let mut work = work_area();
     let n = get32(s, WORK_AT) as usize;
@@ -306,6 +315,7 @@ fn call(s: &[u8], p: Parts, output: &mut [u8], rep: &mut [u8]) -> Answer
 fn written(s: &[u8], p: Parts, output: &mut [u8], rep: &mut [u8]) -> bool
     requires { ⌜ Whole (now s) p ⌝ }
     requires { ⌜ (word (now s) (p .second) ≡ length (now output)) × (word (now s) (p .second + 5) ≡ length (now rep)) ⌝ }
+    ensures { λ r. ⌜ (r ≡ true → Writes (now (s .entry)) p (getD (now (s .entry)) 0 0)) ⌝ }
 {
     let second = p.second;
     fill(output, s[second + OUTPUT_FILL_AT]);
@@ -327,6 +337,7 @@ fn buffer() -> [u8; 16384]
 // Place, merge and fold, with buffers of their own.
 fn writing(s: &[u8], p: Parts) -> bool
     requires { ⌜ Whole (now s) p ⌝ }
+    ensures { λ r. ⌜ (r ≡ true → Writes (now (s .entry)) p (getD (now (s .entry)) 0 0)) ⌝ }
 {
     let mut output = buffer();
     let mut rep = buffer();
@@ -335,18 +346,19 @@ fn writing(s: &[u8], p: Parts) -> bool
     written(s, p, &mut output[..m], &mut rep[..n])
 }
 
-fn compared(is_same: bool) -> Ran
-    ensures { λ r. ⌜ Single r ⌝ }
+fn compared(agrees: bool) -> Ran
+    ensures { λ r. ⌜ Counted agrees r ⌝ }
 {
     Ran::Record(Counts {
         compared: 1,
-        different: flag(!is_same),
+        different: flag(!agrees),
     })
 }
 
 // One record, without its length in front.
 pub fn run(s: &[u8]) -> Ran
     ensures { λ r. ⌜ Single r ⌝ }
+    ensures { λ r. ⌜ Agreed (now (s .entry)) r ⌝ }
 {
     let Record::Whole(p) = parts_of(s) else {
         return Ran::Broken;

@@ -12,3 +12,4 @@ pub mod Remembering
 pub mod Marking
 pub mod Asking
 pub mod Sanity
+pub mod Empties

@@ -1,14 +1,14 @@
 // What a layout supports: the source's `supports_usage_at_offset`, over a usage's records and a table's bytes.
 ghost use mathlib.Core.Path.{_≡_};
-ghost use mathlib.Core.Bool.{true, _&&_};
+ghost use mathlib.Core.Bool.{true, _&&_, _||_};
 ghost use Prim.Native.Nat.{_+_, _*_, _%_, _<_, _≤_};
 ghost use lib.Dec.{eqb};
 ghost use lib.ListN.{length};
 ghost use Rattle.definitions.specs.Support.{outside, sameLength};
 ghost use Rattle.qptr.specs.Values.{sizeOf};
-ghost use Rattle.records.specs.Records.{commandIn, countIn};
+ghost use Rattle.records.specs.Records.{commandIn, countIn, sizeIn};
 ghost use Rattle.support.specs.Known.{ConcreteType, Askable, ConcreteAskable, ComponentsOf, Stands, Unchanged};
-ghost use Rattle.support.specs.Answers.{WholeLeaf, Supports, ComponentSupports, EntrySupported, EntriesSupported, ElementsSupported, ItselfSupports, Answers};
+ghost use Rattle.support.specs.Answers.{WholeLeaf, isEmpty, Supports, ComponentSupports, EntrySupported, EntriesSupported, ElementsSupported, ItselfSupports, Answers};
 ghost use Rattle.support.specs.Memory.{tagOf, Memory, Kept, LeftOpen, FirstSays, LooksUp, Recollects, Keeps, Remembers, Blank, Forgotten};
 use layout::Components;
 use layout::Containing;
@@ -234,6 +234,7 @@ fn remember(ty: u32, at: u32, s: &mut [u8], q: usize, answers: &mut [u32], yes: 
 // Is record q a usage of fixed size 0, and not Unused?
 fn is_empty(s: &[u8], q: usize) -> bool
     requires { ⌜ q * 32 + 32 ≤ length (now s) ⌝ }
+    ensures { λ r. ⌜ r ≡ isEmpty (commandIn (now (s .entry)) q) (sizeIn (now (s .entry)) q) ⌝ }
 {
     if command(s, q) == 0 {
         return false;
@@ -246,6 +247,7 @@ fn is_empty(s: &[u8], q: usize) -> bool
 
 // Can the same questions about record i, of the usage at record q, come back in turns? They can where one question leads to several:
 // for a usage of size 0, which many components contain, and for maps and arrays inside of others, whose offsets differ by the way.
+// Nothing is promised of the answer, which only chooses how long a list of answers is: with any list the same is supported.
 fn is_asked_in_turns(s: &[u8], q: usize, i: usize) -> bool
     requires { ⌜ i * 32 + 32 ≤ length (now s) ⌝ }
 {
@@ -258,14 +260,16 @@ fn is_asked_in_turns(s: &[u8], q: usize, i: usize) -> bool
     3 <= command(s, i)
 }
 
-fn either(a: bool, b: bool) -> bool {
+fn either(a: bool, b: bool) -> bool
+    ensures { λ r. ⌜ r ≡ (a || b) ⌝ }
+{
     if a {
         return true;
     }
     b
 }
 
-// The usage at record q remembers nothing. Is a list of answers worth its cost?
+// The usage at record q remembers nothing. Is a list of answers worth its cost? Of that nothing is promised, as above.
 fn forget(s: &mut [u8], q: usize) -> bool
     requires { ⌜ Stands (now s) q ⌝ }
     ensures { λ r. ⌜ Forgotten (now (s .entry)) (now (s .exit)) q ⌝ }
@@ -515,7 +519,8 @@ fn supports_inside(
     }
 }
 
-// Has a short list some places for each node of the usage at record q and each type that can be asked, up to ty?
+// Has a short list some places for each node of the usage at record q and each type that can be asked, up to ty? Nothing is promised,
+// since a short list and a long one give the same answers.
 fn asks_few(s: &[u8], q: usize, ty: u32) -> bool
     requires { ⌜ q * 32 + 32 ≤ length (now s) ⌝ }
 {

@@ -5,12 +5,12 @@ use Prim.Native.Nat.{ℕ, _<_}
 use native.Mathlib.Omega.{arith}
 use borrow.Fn.Kinds.{In}
 use borrow.Fn.PlainCycle.{Measures, is, falls, and}
-use Rattle.report.proofs.Emitting.{emitted-nothing, emitted-after}
+use Rattle.frame.proofs.Putting.{put-nothing, put-after}
 use Rattle.frame.proofs.Showing.{no-digits, one-digit, more-digits}
 use Rattle.frame.proofs.digits_in.Reads as digits-in
 use Rattle.frame.proofs.digits_in.Kinds as digits-in-kinds
 use Rattle.frame.proofs.+digits_in.Lts-digits_in as digits-in-lts
-use Rattle.report.proofs.byte.Reads as byte-reads
+use Rattle.frame.proofs.byte.Reads as byte-reads
 use Rattle.frame.proofs.+digits_in.{statement}
 use Rattle.frame.proofs.+digits_in.Tie.{close}
 
@@ -28,7 +28,7 @@ abbrev digits-in-claims : ℕ → digits-in-lts.Claims
 digits-in-claims t = (byte-reads.Asked, byte-reads.Learnt, digits-in-below t, digits-in.Post)
 
 digits-in-returns : (t : ℕ) → digits-in-lts.Need-returns (digits-in-claims t) (digits-in-at t) digits-in.Post
-digits-in-returns t c = rw (no-digits _ (c .before .before .args .n) (c .if1 .taken)) (emitted-nothing _ _ (omega arith))
+digits-in-returns t c = rw (no-digits _ (c .before .before .args .n) (c .if1 .taken)) (put-nothing _ _ (omega arith))
 
 digits-in-add-byte : (t : ℕ) → digits-in-lts.Need-add-byte (digits-in-claims t) (digits-in-at t) digits-in.Post
 digits-in-add-byte t c = search needs
@@ -64,7 +64,7 @@ digits-in-same-length-2 : (t : ℕ) → digits-in-lts.Need-same-length-2 (digits
 digits-in-same-length-2 t c = search needs
 
 digits-in-returns-3 : (t : ℕ) → digits-in-lts.Need-returns-3 (digits-in-claims t) (digits-in-at t) digits-in.Post
-digits-in-returns-3 t c = rw (more-digits _ _ (c .before .before .before .before .before .before .before .before .before .if1 .left) (c .before .before .before .before .before .before .before .before .if2 .left)) (emitted-after (c .before .before .before .before .before .before .digits-in .ensures) (c .before .before .byte2 .ensures))
+digits-in-returns-3 t c = rw (more-digits _ _ (c .before .before .before .before .before .before .before .before .before .if1 .left) (c .before .before .before .before .before .before .before .before .if2 .left)) (put-after (c .before .before .before .before .before .before .digits-in .ensures) (c .before .before .byte2 .ensures))
 
 pub +digits-in-spec : {M : Type 1} → statement M
 +digits-in-spec = close μ-digits-in λ t. digits-in-lts.spec (digits-in-claims t)

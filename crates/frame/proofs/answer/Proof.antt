@@ -3,7 +3,7 @@
 use borrow.Author.Needs.{needs}
 use native.Mathlib.Omega.{arith}
 use lib.ListN.{length-take}
-use Rattle.frame.proofs.Printing.{answer-emitted}
+use Rattle.frame.proofs.Printing.{answer-put}
 use Rattle.frame.proofs.answer.Statement.{statement}
 use Rattle.frame.proofs.answer.Tie as tie
 
@@ -29,7 +29,7 @@ same-length : tie.Need-same-length
 same-length c = search needs
 
 returns : tie.Need-returns
-returns c = let a = c .before .before .before .before .before .before .before .before .before .before .before .before .before .before .before .before .before .before .before .before .before .args in answer-emitted (a .a) (a .output .now) (a .rep .now) (c .before .before .before .before .before .before .before .before .before .before .before .before .before .before .before .before .number .ensures) (c .before .before .before .before .before .before .before .before .before .before .before .before .number2 .ensures) (c .before .before .before .before .before .before .before .text .ensures) (c .before .before .text2 .ensures)
+returns c = let a = c .before .before .before .before .before .before .before .before .before .before .before .before .before .before .before .before .before .before .before .before .before .args in answer-put (a .a) (a .output .now) (a .rep .now) (c .before .before .before .before .before .before .before .before .before .before .before .before .before .before .before .before .number .ensures) (c .before .before .before .before .before .before .before .before .before .before .before .before .number2 .ensures) (c .before .before .before .before .before .before .before .text .ensures) (c .before .before .text2 .ensures)
 
 pub answer-spec : {M : Type 1} → statement M
 answer-spec =

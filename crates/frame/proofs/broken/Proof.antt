@@ -1,7 +1,7 @@
 -- `broken` meets its contract: the six bytes stand behind one another.
 -- Assumes nothing.
 use borrow.Author.Needs.{needs}
-use Rattle.report.proofs.Emitting.{emitted-after}
+use Rattle.frame.proofs.Putting.{put-after}
 use Rattle.frame.proofs.broken.Statement.{statement}
 use Rattle.frame.proofs.broken.Tie as tie
 
@@ -27,7 +27,7 @@ same-length : tie.Need-same-length
 same-length c = search needs
 
 returns : tie.Need-returns
-returns c = emitted-after (c .before .before .before .before .before .before .before .before .before .before .before .before .before .before .before .before .before .before .before .before .before .before .byte .ensures) (emitted-after (c .before .before .before .before .before .before .before .before .before .before .before .before .before .before .before .before .before .before .byte2 .ensures) (emitted-after (c .before .before .before .before .before .before .before .before .before .before .before .before .before .before .byte3 .ensures) (emitted-after (c .before .before .before .before .before .before .before .before .before .before .byte4 .ensures) (emitted-after (c .before .before .before .before .before .before .byte5 .ensures) (c .before .before .byte6 .ensures)))))
+returns c = put-after (c .before .before .before .before .before .before .before .before .before .before .before .before .before .before .before .before .before .before .before .before .before .before .byte .ensures) (put-after (c .before .before .before .before .before .before .before .before .before .before .before .before .before .before .before .before .before .before .byte2 .ensures) (put-after (c .before .before .before .before .before .before .before .before .before .before .before .before .before .before .byte3 .ensures) (put-after (c .before .before .before .before .before .before .before .before .before .before .byte4 .ensures) (put-after (c .before .before .before .before .before .before .byte5 .ensures) (c .before .before .byte6 .ensures)))))
 
 pub broken-spec : {M : Type 1} → statement M
 broken-spec =

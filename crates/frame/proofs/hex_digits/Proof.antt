@@ -4,7 +4,7 @@ use Prim.Native.Nat.{_-_}
 use native.Mathlib.Omega.{arith}
 use borrow.Author.Needs.{needs}
 use lib.ListN.{length}
-use Rattle.report.proofs.Emitting.{emitted-nothing}
+use Rattle.frame.proofs.Putting.{put-nothing}
 use Rattle.frame.proofs.Showing.{Shown, shown-more, shown-all}
 use Rattle.frame.proofs.hex_digits.Statement.{statement}
 use Rattle.frame.proofs.hex_digits.Tie as tie
@@ -16,7 +16,7 @@ abbrev μ-loop : tie.MeasureT-loop
 μ-loop line₀ at s p₀ i₀ line p i = length s - i
 
 loop-holds : tie.Need-loop-holds Inv-loop μ-loop
-loop-holds c = record { upto = omega arith; digits = emitted-nothing _ _ (omega arith) }
+loop-holds c = record { upto = omega arith; digits = put-nothing _ _ (omega arith) }
 
 shared-slice-read-b : tie.Need-shared-slice-read-b Inv-loop μ-loop
 shared-slice-read-b c = search needs

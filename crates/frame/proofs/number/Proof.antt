@@ -1,7 +1,7 @@
 -- `number` meets its contract: the space stands behind the digits.
 -- Assumes nothing.
 use borrow.Author.Needs.{needs}
-use Rattle.report.proofs.Emitting.{emitted-after}
+use Rattle.frame.proofs.Putting.{put-after}
 use Rattle.frame.proofs.number.Statement.{statement}
 use Rattle.frame.proofs.number.Tie as tie
 
@@ -15,7 +15,7 @@ same-length : tie.Need-same-length
 same-length c = search needs
 
 returns : tie.Need-returns
-returns c = emitted-after (c .before .before .before .before .before .before .digits-in .ensures) (c .before .before .byte .ensures)
+returns c = put-after (c .before .before .before .before .before .before .digits-in .ensures) (c .before .before .byte .ensures)
 
 pub number-spec : {M : Type 1} → statement M
 number-spec = tie.close (tie.spec digits-in-requires byte-requires same-length returns)

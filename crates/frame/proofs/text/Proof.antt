@@ -1,7 +1,7 @@
 -- `text` meets its contract: the byte stands behind the digits.
 -- Assumes nothing.
 use borrow.Author.Needs.{needs}
-use Rattle.report.proofs.Emitting.{emitted-after}
+use Rattle.frame.proofs.Putting.{put-after}
 use Rattle.frame.proofs.text.Statement.{statement}
 use Rattle.frame.proofs.text.Tie as tie
 
@@ -15,7 +15,7 @@ same-length : tie.Need-same-length
 same-length c = search needs
 
 returns : tie.Need-returns
-returns c = emitted-after (c .before .before .before .before .before .before .hex .ensures) (c .before .before .byte .ensures)
+returns c = put-after (c .before .before .before .before .before .before .hex .ensures) (c .before .before .byte .ensures)
 
 pub text-spec : {M : Type 1} → statement M
 text-spec = tie.close (tie.spec hex-requires byte-requires same-length returns)

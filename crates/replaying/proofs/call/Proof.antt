@@ -1,7 +1,10 @@
--- `call` stays within the record, and the part of the work area that it lends is as long as is recorded.
+-- `call` meets its contract: it stays within the record, and the part of the work area that it lends is as long as is recorded.
 -- Assumes nothing.
 use native.Mathlib.Omega.{arith}
-use lib.ListN.{length-take}
+use lib.ListN.{length, getD, take, length-take}
+use mathlib.Core.Path.{_≡_}
+use Rattle.records.specs.Words.{word}
+use Rattle.replaying.proofs.Agreeing.{is-place, is-merge, is-fold}
 use borrow.Author.Needs.{needs}
 use Rattle.replaying.proofs.call.Statement.{statement}
 use Rattle.replaying.proofs.call.Tie as tie
@@ -132,8 +135,11 @@ same-length c = search needs
 same-length-2 : tie.Need-same-length-2
 same-length-2 c = search needs
 
+long : (c : tie.After-slice-known4) → length (take (c .before .before .before .before .before .before .before .before .before .before .before .before .before .before .before .before .before .get32 .result) (c .before .before .before .before .before .before .before .before .before .before .before .before .before .before .before .before .before .before .work-area .result)) ≡ word (c .before .before .before .before .before .before .before .before .before .before .before .before .before .before .before .before .before .before .before .before .before .before .args .s .now) 1
+long c = simp length-take (omega (arith, c .before .before .before .before .before .before .before .before .before .before .before .before .before .before .before .before .before .get32 .ensures, c .before .before .before .before .before .before .before .before .before .before .before .before .before .before .before .before .before .before .work-area .ensures, c .before .before .before .before .before .before .before .before .before .before .before .before .before .before .before .before .before .before .before .before .before .before .pre .fits .work))
+
 returns : tie.Need-returns
-returns c = search needs
+returns c = let a = c .before .before .before .before .before .before .before .before .before .before .before .before .before .before .before .before .before .before .before .before .before .before .args in rw (is-place (a .s .now) (a .p) (a .output .now) (length (a .rep .now)) (getD (a .s .now) 0 0) _ _ (c .before .before .before .before .before .before .before .before .before .before .before .before .before .match .keys1) (long c) (c .before .before .before .before .before .before .before .before .before .before .before .before .get322 .ensures)) at (c .before .before .before .before .before .place .ensures)
 
 same-length-3 : tie.Need-same-length-3
 same-length-3 c = search needs
@@ -141,8 +147,11 @@ same-length-3 c = search needs
 same-length-4 : tie.Need-same-length-4
 same-length-4 c = search needs
 
+long-2 : (c : tie.After-slice-known6) → length (take (c .before .before .before .before .before .before .before .before .before .before .before .before .before .before .before .before .get32 .result) (c .before .before .before .before .before .before .before .before .before .before .before .before .before .before .before .before .before .work-area .result)) ≡ word (c .before .before .before .before .before .before .before .before .before .before .before .before .before .before .before .before .before .before .before .before .before .args .s .now) 1
+long-2 c = simp length-take (omega (arith, c .before .before .before .before .before .before .before .before .before .before .before .before .before .before .before .before .get32 .ensures, c .before .before .before .before .before .before .before .before .before .before .before .before .before .before .before .before .before .work-area .ensures, c .before .before .before .before .before .before .before .before .before .before .before .before .before .before .before .before .before .before .before .before .before .pre .fits .work))
+
 returns-2 : tie.Need-returns-2
-returns-2 c = search needs
+returns-2 c = let a = c .before .before .before .before .before .before .before .before .before .before .before .before .before .before .before .before .before .before .before .before .before .args in rw (is-merge (a .s .now) (a .p) (a .output .now) (length (a .rep .now)) (getD (a .s .now) 0 0) _ (c .before .before .before .before .before .before .before .before .before .before .before .before .match .keys2) (long-2 c)) at (c .before .before .before .before .before .merge .ensures)
 
 same-length-5 : tie.Need-same-length-5
 same-length-5 c = search needs
@@ -150,8 +159,11 @@ same-length-5 c = search needs
 same-length-6 : tie.Need-same-length-6
 same-length-6 c = search needs
 
+long-3 : (c : tie.After-slice-known8) → length (take (c .before .before .before .before .before .before .before .before .before .before .before .before .before .before .before .get32 .result) (c .before .before .before .before .before .before .before .before .before .before .before .before .before .before .before .before .work-area .result)) ≡ word (c .before .before .before .before .before .before .before .before .before .before .before .before .before .before .before .before .before .before .before .before .args .s .now) 1
+long-3 c = simp length-take (omega (arith, c .before .before .before .before .before .before .before .before .before .before .before .before .before .before .before .get32 .ensures, c .before .before .before .before .before .before .before .before .before .before .before .before .before .before .before .before .work-area .ensures, c .before .before .before .before .before .before .before .before .before .before .before .before .before .before .before .before .before .before .before .before .pre .fits .work))
+
 returns-3 : tie.Need-returns-3
-returns-3 c = search needs
+returns-3 c = let a = c .before .before .before .before .before .before .before .before .before .before .before .before .before .before .before .before .before .before .before .before .args in rw (is-fold (a .s .now) (a .p) (a .output .now) (length (a .rep .now)) (getD (a .s .now) 0 0) _ (c .before .before .before .before .before .before .before .before .before .before .before .match .rest .0 .1) (c .before .before .before .before .before .before .before .before .before .before .before .match .rest .1) (long-3 c)) at (c .before .before .before .before .before .fold .ensures .0)
 
 pub call-spec : {M : Type 1} → statement M
 call-spec =

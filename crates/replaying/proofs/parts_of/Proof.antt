@@ -4,6 +4,7 @@ use native.Mathlib.Omega.{arith}
 use borrow.Author.Needs.{needs}
 use borrow.Author.Tests.{not-false}
 use Rattle.frame.specs.Places.{BlockAt}
+use Rattle.replaying.proofs.Agreeing.{parts-are}
 use Rattle.replaying.proofs.parts_of.Statement.{statement}
 use Rattle.replaying.proofs.parts_of.Tie as tie
 
@@ -73,6 +74,7 @@ returns-7 c =
       table = table (c .before .before .before .before .before .before .before .before .before .before .before) .some;
       first = first (c .before .before .before .before .before .before .before) .some;
       second = second (c .before .before .before) .some;
+      is = parts-are _ _ _ _ (table (c .before .before .before .before .before .before .before .before .before .before .before) .ends) (first (c .before .before .before .before .before .before .before) .ends) (second (c .before .before .before) .ends);
       inside = let e = second (c .before .before .before) in omega arith;
       fits = rw (not-false (c .before .sized .result) (c .if3 .left)) at (c .before .sized .ensures);
     }

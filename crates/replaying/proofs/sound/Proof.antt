@@ -1,8 +1,11 @@
--- `sound` stays within the record, and the part of the work area that it lends is as long as is recorded.
+-- `sound` meets its contract: it stays within the record, and the part of the work area that it lends is as long as is recorded.
 -- Assumes nothing.
 use native.Mathlib.Omega.{arith}
 use borrow.Author.Needs.{needs}
-use lib.ListN.{length-take}
+use lib.ListN.{length, take, length-take}
+use mathlib.Core.Path.{_≡_}
+use Rattle.records.specs.Words.{word}
+use Rattle.replaying.proofs.Agreeing.{sounded}
 use Rattle.replaying.proofs.sound.Statement.{statement}
 use Rattle.replaying.proofs.sound.Tie as tie
 
@@ -51,8 +54,11 @@ add-answered c = search needs
 answered-requires : tie.Need-answered-requires
 answered-requires c κs = search needs
 
+long : (c : tie.After-answered) → length (take (c .before .before .before .before .before .before .before .before .get32 .result) (c .before .before .before .before .before .before .before .before .before .work-area .result)) ≡ word (c .before .before .before .before .before .before .before .before .before .before .before .args .s .now) 1
+long c = simp length-take (omega arith)
+
 returns : tie.Need-returns
-returns c = search needs
+returns c = λ e. sounded (c .before .before .before .before .before .before .before .before .before .before .before .args .s .now) (c .before .before .before .before .before .before .before .before .before .before .before .args .p) (c .before .before .before .sound .result) _ (long c) (c .before .before .before .sound .ensures) (c .answered .ensures e)
 
 pub sound-spec : {M : Type 1} → statement M
 sound-spec =

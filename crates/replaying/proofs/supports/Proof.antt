@@ -1,7 +1,10 @@
--- `supports` stays within the record, and the part of the work area that it lends is as long as is recorded.
+-- `supports` meets its contract: it stays within the record, and the part of the work area that it lends is as long as is recorded.
 -- Assumes nothing.
 use native.Mathlib.Omega.{arith}
-use lib.ListN.{length-take}
+use lib.ListN.{length, take, length-take}
+use mathlib.Core.Path.{_≡_}
+use Rattle.records.specs.Words.{word}
+use Rattle.replaying.proofs.Agreeing.{supported}
 use borrow.Author.Needs.{needs}
 use Rattle.replaying.proofs.supports.Statement.{statement}
 use Rattle.replaying.proofs.supports.Tie as tie
@@ -57,8 +60,11 @@ add-answered c = search needs
 answered-requires : tie.Need-answered-requires
 answered-requires c κs = search needs
 
+long : (c : tie.After-answered) → length (take (c .before .before .before .before .before .before .before .before .before .before .get32 .result) (c .before .before .before .before .before .before .before .before .before .before .before .work-area .result)) ≡ word (c .before .before .before .before .before .before .before .before .before .before .before .before .before .args .s .now) 1
+long c = simp length-take (omega arith)
+
 returns : tie.Need-returns
-returns c = search needs
+returns c = λ e. supported (c .before .before .before .before .before .before .before .before .before .before .before .before .before .args .s .now) (c .before .before .before .before .before .before .before .before .before .before .before .before .before .args .p) (c .before .before .before .supports .result) _ _ _ (long c) (c .before .before .before .before .before .before .before .before .before .get322 .ensures) (c .before .before .before .before .before .before .before .before .get323 .ensures) (c .before .before .before .supports .ensures) (c .answered .ensures e)
 
 pub supports-spec : {M : Type 1} → statement M
 supports-spec =

@@ -1,4 +1,4 @@
--- `writing` lends buffers that are as long as is recorded.
+-- `writing` meets its contract: it lends buffers that are as long as is recorded.
 -- Assumes nothing.
 use native.Mathlib.Omega.{arith}
 use lib.ListN.{length-take}
@@ -43,7 +43,7 @@ written-requires : tie.Need-written-requires
 written-requires c κs = (c .before .before .before .before .before .before .before .before .pre, (simp length-take (omega arith), simp length-take (omega arith)))
 
 returns : tie.Need-returns
-returns c = search needs
+returns c = c .before .before .written .ensures
 
 pub writing-spec : {M : Type 1} → statement M
 writing-spec =
