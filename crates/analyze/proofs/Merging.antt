@@ -42,11 +42,12 @@ bare-receives : (u v : Usage) → firstReceives (bare u) (bare v) ≡ firstRecei
 bare-receives u v = rw (bare-size u, bare-size v, bare-strictness u, bare-strictness v)
 
 bare-stands : (u : Usage) {s : List ℕ} {q t o : ℕ} {r : Node} → Root u t s q o → Top s q r → Stands r (bare u)
-bare-stands (unused z) H T = rw (T .command, T .size, T .argument, H .command, H .size)
-bare-stands (leaf z true t) H T = rw (T .command, T .size, T .argument, H .command, H .size)
-bare-stands (leaf z false t) H T = rw (T .command, T .size, T .argument, H .command, H .size)
-bare-stands (map z es) H T = rw (T .command, T .size, T .argument, H .command, H .size)
-bare-stands (array z n e) H T = rw (T .command, T .size, T .argument, H .command, H .size)
+unfolding if_then_else_
+bare-stands (unused z) H T = T .part ∙ rw (H .command, H .size)
+bare-stands (leaf z true t) H T = T .part ∙ rw (H .command, H .size)
+bare-stands (leaf z false t) H T = T .part ∙ rw (H .command, H .size)
+bare-stands (map z es) H T = T .part ∙ rw (H .command, H .size)
+bare-stands (array z n e) H T = T .part ∙ rw (H .command, H .size)
 
 module _ {k : ℕ} {s : List ℕ} {na nb : ℕ} {a b : Usage} (two : Two k s na nb a b) where
   roots-receive : {x y : Node} {t : Bool} → Top s 0 x → Top s na y → Receives x y t → t ≡ firstReceives a b

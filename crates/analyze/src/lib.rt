@@ -20,11 +20,7 @@ fn top(s: &[u8], q: usize) -> Node
     requires { ⌜ q * 32 + 32 ≤ length (now s) ⌝ }
     ensures { λ r. ⌜ Top (now (s .entry)) q r ⌝ }
 {
-    Node {
-        command: (command(s, q) % 256) as u8,
-        size: max_size(s, q),
-        argument: 0,
-    }
+    Node::of((command(s, q) % 256) as u8, max_size(s, q), 0)
 }
 
 // b, the nb records behind a's na, is placed in a at d. The result stands from record 0 on. `from` is 0, or a record at which an

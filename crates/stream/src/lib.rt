@@ -211,7 +211,7 @@ fn outline(s: &[u8], at: usize) -> HeaderAt
     requires { ⌜ at ≤ length (now s) ⌝ }
     ensures { λ r. ⌜ Outlines (now (s .entry)) at r ⌝ }
 {
-    if at == s.len() {
+    if s.len() == at {
         return HeaderAt::Broken;
     }
     let command = s[at];

@@ -45,7 +45,7 @@ returns-2 : tie.Need-returns-2
 returns-2 c =
     let a = c .before .before .before .before .before .before .before .args in
     let row = c .before .before .before .of in
-    head-cut (a .s .now) (a .at) (omega arith) (row .result) (row .ensures) (c .if2 .taken)
+    head-cut (a .s .now) (a .at) (omega arith) (row .result) (row .ensures) (omega arith)
 
 add-size : tie.Need-add-size
 add-size c = search needs
@@ -91,7 +91,7 @@ whole c =
     let row = c .before .before .before .before .before .before .before .before .before .before .before .of in
     let sized = rw (c .before .before .before .before .size2 .given .1) at (c .before .before .before .before .before .before .size .ensures) in
     rw (← c .before .number .ensures) at
-    (head-whole (a .s .now) (a .at) (omega arith) (row .result) (row .ensures) (c .before .before .before .before .before .before .before .before .if2 .left) sized)
+    (head-whole (a .s .now) (a .at) (omega arith) (row .result) (row .ensures) (omega arith) sized)
     ∙ c .known .ensures _ _
 
 returns-4 : tie.Need-returns-4

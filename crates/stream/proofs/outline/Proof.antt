@@ -7,7 +7,7 @@ use Rattle.stream.proofs.outline.Statement.{statement}
 use Rattle.stream.proofs.outline.Tie as tie
 
 returns : tie.Need-returns
-returns c = let a = c .before .before .args in head-none (a .s .now) (a .at) (c .if1 .taken)
+returns c = let a = c .before .before .args in head-none (a .s .now) (a .at) (omega arith)
 
 shared-slice-read-command : tie.Need-shared-slice-read-command
 shared-slice-read-command c = search needs

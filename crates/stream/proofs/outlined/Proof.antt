@@ -38,7 +38,7 @@ row-is c = rw (c .before .before .pre .1) (c .of .ensures)
 returns : tie.Need-returns
 returns c =
     let a = c .before .before .before .before .before .args in
-    head-cut (a .s .now) (a .at) (omega arith) (c .before .before .before .of .result) (row-is (c .before .before .before)) (c .if1 .taken)
+    head-cut (a .s .now) (a .at) (omega arith) (c .before .before .before .of .result) (row-is (c .before .before .before)) (omega arith)
 
 add-number : tie.Need-add-number
 add-number c = search needs
@@ -61,7 +61,7 @@ returns-2 c =
     let row = c .before .before .before .before .before .before .of in
     record {
       same = λ h rest e.
-          let told = reads-is (head-told (a .s .now) (a .at) (omega arith) (row .result) (row-is (c .before .before .before .before .before .before)) (c .before .before .before .if1 .left)) e in
+          let told = reads-is (head-told (a .s .now) (a .at) (omega arith) (row .result) (row-is (c .before .before .before .before .before .before)) (omega arith)) e in
           let command : h .command ≡ a .command = told .0 ∙ c .before .before .before .before .before .before .before .before .pre .1 in
           let argument : h .argument ≡ c .before .number .result = told .1 ∙ sym (c .before .number .ensures) in
           let part = own-part (head-own _ h rest e) (c .of2 .result) {z = dynamic} (rw (command, argument) (c .of2 .ensures)) in
