@@ -6,9 +6,10 @@ use mathlib.Core.Path.{_≡_, refl, sym, ap, _∙_}
 use mathlib.Core.List.{List, [], _∷_, _++_, append-nil}
 use native.Mathlib.Omega.{arith}
 use native.Mathlib.Numerals.{add-one}
-use lib.ListN.{length, drop, getD, length-append}
+use lib.ListN.{length, drop, length-append}
 use Rattle.definitions.specs.Limits.{nodeLimit, workLimit}
 use Rattle.definitions.specs.Usage.{Usage, nodes, nodesOf, Nodes, allNodes}
+use Rattle.definitions.specs.Command.{argumentWidth}
 use Rattle.definitions.specs.Stream.{read, readNodes}
 use Rattle.definitions.specs.Table.{Setting}
 use Rattle.definitions.specs.Place.{Result, refused, done, after, mergeMem, ofNode, andThen, foldFrom, fold}
@@ -17,8 +18,10 @@ use Rattle.definitions.proofs.Nodes.{some-node}
 use Rattle.definitions.proofs.After.{after-nothing, after-both}
 use Rattle.definitions.proofs.FewPairings.{mergeMem-few, fold-few}
 use Rattle.definitions.proofs.Stored.{mergeMem-storable}
+use Rattle.records.specs.Words.{Width, numberAt}
 use Rattle.records.specs.Usages.{At}
 use Rattle.records.proofs.Parts.{same-bytes}
+use Rattle.records.proofs.Widths.{argument-width}
 use Rattle.layout.specs.Places.{Known}
 use Rattle.report.specs.Emitted.{Emitted}
 use Rattle.report.proofs.Emitting.{emitted-nothing, emitted-after}
@@ -29,7 +32,7 @@ use Rattle.answers.specs.Writing.{Reached}
 use Rattle.folding.specs.Folding.{NodeReady, NodeLoaded, NextReady, ofNext, NextFolded, Foldable}
 use Rattle.folding.specs.declared.Folded.{Folded}
 use Rattle.folding.specs.declared.Loaded.{Loaded}
-use Rattle.folding.proofs.Lists.{Listed, nodes-left, list-behind}
+use Rattle.folding.proofs.Lists.{Listed, Counted, nodes-left, list-behind}
 use Rattle.answers.proofs.Reaching.{reached}
 
 -- 38 and an index are three bytes
@@ -66,27 +69,30 @@ pub record Folding (st : Setting) (ns : Nodes) (list : List ℕ) (count : ℕ) (
 abbrev start : Loaded → Folded
 start l = record { end = l .end; result = record { refusal = 0; nodes = l .nodes; pairings = 0; at = 0; finger = 0 } }
 
-module _ {table places list : List ℕ} {st : Setting} {ns : Nodes} (foldable : Foldable table places list st ns) where
-  pub count-inside : 3 ≤ length list
-  count-inside = list-behind list (foldable .is) .0
+module _ {table places list : List ℕ} {st : Setting} {ns : Nodes} (foldable : Foldable table places list st ns) {w : ℕ} (width : w ≡ argumentWidth 0x0B) where
+  pub count-inside : Width w × (1 + w ≤ length list)
+  count-inside = rw width (argument-width 0x0B, list-behind list (foldable .is) .0)
 
-  pub first-ready : {work : List ℕ} → workLimit ≤ length work → NodeReady list 3 work 0
+  all-counted : Counted (numberAt w list 1) (drop (1 + w) list) ns []
+  all-counted = rw width (list-behind list (foldable .is) .1)
+
+  pub first-ready : {work : List ℕ} → workLimit ≤ length work → NodeReady list (1 + w) work 0
   first-ready enough =
-      let all = list-behind list (foldable .is) .1 in
+      let all = all-counted in
       record {
         usage = ns .first;
         rest = all .behind;
         reads = all .first-reads;
-        within = count-inside;
+        within = count-inside .1;
         inside = omega (arith, foldable .few);
         small = omega (arith, foldable .few);
       }
 
-  pub fold-start : {work work₁ : List ℕ} {l : Loaded} (rep : List ℕ) {count : ℕ} → count ≡ getD list 1 0 + getD list 2 0 * 256
-      → NodeLoaded list 3 work 0 work₁ l → Folding st ns list count rep work₁ rep (start l) 1
+  pub fold-start : {work work₁ : List ℕ} {l : Loaded} (rep : List ℕ) {count : ℕ} → count ≡ numberAt w list 1
+      → NodeLoaded list (1 + w) work 0 work₁ l → Folding st ns list count rep work₁ rep (start l) 1
   unfolding fold
   fold-start {work₁} {l} rep e loaded =
-      let all = list-behind list (foldable .is) .1 in
+      let all = all-counted in
       let place : drop (l .end) list ≡ all .behind = loaded .behind (ns .first) (all .behind) (all .first-reads) in
       record {
         u = ns .first;

@@ -1,17 +1,19 @@
--- What an accepted list's bytes are: 0B, a count of two bytes, the first node and, as many as the count says, the others.
+-- What an accepted list's bytes are: 0B, a count, the first node and, as many as the count says, the others.
 -- Assumes nothing.
-use Prim.Native.Nat.{ℕ, zero, suc, _+_, _*_, _≤_}
+use Prim.Native.Nat.{ℕ, zero, suc, _+_, _≤_}
 use mathlib.Core.Path.{_≡_, refl}
 use mathlib.Core.List.{List, [], _∷_}
 use mathlib.Core.Option.{some}
 use native.Mathlib.Omega.{arith}
 use lib.Dec.{eqb}
-use lib.ListN.{length, drop, getD}
+use lib.ListN.{length, drop}
 use Rattle.definitions.specs.Usage.{Usage, Nodes}
-use Rattle.definitions.specs.Command.{commandAt}
+use Rattle.definitions.specs.Command.{argumentWidth}
 use Rattle.definitions.specs.Stream.{Read, broken, read, _then_, readNode, readNodes, readCounted, readList, listOf}
 use Rattle.definitions.proofs.Choice.{either}
 use Rattle.definitions.proofs.Reading.{Reads, stops, gives, reads-map, reads-is, reads-whole}
+use Rattle.records.specs.Words.{numberAt}
+use Rattle.records.proofs.Numbers.{number-then}
 
 -- a is made of a node and of k others behind it
 pub record Listed {A : Type 0} (made : Usage → List Usage → A) (k : ℕ) (bs : List ℕ) (a : A) (rest : List ℕ) : Type 0 where
@@ -56,25 +58,16 @@ counted (suc k) bs =
 
 -- behind the command
 abbrev Behind : List ℕ → Nodes → List ℕ → Type 0
-Behind bs ns rest = (3 ≤ length bs) × Counted (getD bs 1 0 + getD bs 2 0 * 256) (drop 3 bs) ns rest
+Behind bs ns rest = (1 + argumentWidth 0x0B ≤ length bs) × Counted (numberAt (argumentWidth 0x0B) bs 1) (drop (1 + argumentWidth 0x0B) bs) ns rest
 
 behind : (bs : List ℕ) → Reads (Behind bs) (readList bs)
-unfolding commandAt
 behind [] = stops
-behind (c ∷ []) = either (Reads _) (eqb c 0x0B) stops stops
-behind (c ∷ a ∷ []) = either (Reads _) (eqb c 0x0B) stops stops
-behind (c ∷ a ∷ b ∷ bs) =
+behind (c ∷ bs) =
+    let w = argumentWidth 0x0B in
+    let all = c ∷ bs in
     either (Reads _) (eqb c 0x0B)
-    (reads-map (counted (a + 256 * (b + 256 * 0)) bs) (λ ns rest h. (
-      omega arith,
-      record {
-        others-count = h .others-count;
-        counted = omega (arith, h .counted);
-        behind = h .behind;
-        first-reads = h .first-reads;
-        others-read = h .others-read;
-      },
-    )))
+    (number-then (Reads (Behind all)) w all 1 (1 + w) readCounted (omega arith) stops refl λ inside.
+    reads-map (counted (numberAt w all 1) (drop (1 + w) all)) (λ ns rest h. (inside, h)))
     stops
 
 pub list-behind : (bs : List ℕ) {ns : Nodes} → listOf bs ≡ some ns → Behind bs ns []

@@ -5,8 +5,13 @@ ghost use Rattle.definitions.specs.Stream.{bytes};
 ghost use Rattle.report.specs.Emitted.{Emitted};
 ghost use Rattle.folding.specs.Folding.{NodeReady, NodeLoaded, NextReady, NextFolded, FoldReady, AllFolded};
 use analyze::merge_mem;
+use qptr::Command;
+use records::number;
 use states::Outcome;
 use stream::Span;
+
+// The command of a list.
+const LIST: u8 = 0x0B;
 
 // How far a fold has come: the nodes up to this place of the list are the usage from record 0 on.
 struct Folded {
@@ -97,8 +102,9 @@ pub fn fold_nodes(
     requires { ⌜ FoldReady (now table) (now places) (now list) (now work) ⌝ }
     ensures { λ r. ⌜ AllFolded (now (table .entry)) (now (places .entry)) (now (list .entry)) (now (work .exit)) r (now (rep .exit)) ⌝ }
 {
-    let count = list[1] as usize + list[2] as usize * 256;
-    let first = load_node(list, 3, work, 0);
+    let width = Command::of(LIST).argument as usize;
+    let count = number(list, 1, width) as usize;
+    let first = load_node(list, 1 + width, work, 0);
     let mut f = Folded {
         end: first.end,
         result: Outcome {

@@ -2,11 +2,12 @@
 -- and fewer nodes are left at each turn. A refusal ends the fold.
 -- Assumes nothing.
 use Prim.Native.Nat.{_-_}
-use mathlib.Core.Path.{_≡_, refl, _∙_}
+use mathlib.Core.Path.{_≡_, refl, ap, _∙_}
 use native.Mathlib.Omega.{arith}
 use borrow.Author.Needs.{needs}
 use lib.ListN.{length}
 use Rattle.definitions.specs.Usage.{Nodes}
+use Rattle.definitions.specs.Command.{Command}
 use Rattle.definitions.specs.Table.{Setting}
 use Rattle.folding.specs.Folding.{Foldable}
 use Rattle.folding.proofs.Folds.{Folding, count-inside, first-ready, fold-start, turn-ready, turn-refused, turn-on, fold-end}
@@ -14,41 +15,38 @@ use Rattle.folding.proofs.fold_nodes.Statement.{statement}
 use Rattle.folding.proofs.fold_nodes.Tie as tie
 
 abbrev Inv-loop : tie.InvT-loop
-Inv-loop table places list work₀ rep₀ count f₀ i₀ work rep f i =
+Inv-loop table places list work₀ rep₀ width count f₀ i₀ work rep f i =
     ((st : Setting) (ns : Nodes) → Foldable table places list st ns → Folding st ns list count rep₀ work rep f i) × (length work ≡ length work₀) × (length rep ≡ length rep₀)
 
 abbrev μ-loop : tie.MeasureT-loop
-μ-loop table places list work₀ rep₀ count f₀ i₀ work rep f i = count - i
+μ-loop table places list work₀ rep₀ width count f₀ i₀ work rep f i = count - i
 
-shared-slice-read-count : tie.Need-shared-slice-read-count Inv-loop μ-loop
-shared-slice-read-count c = omega (arith, count-inside (c .before .before .before .before .before .before .pre .foldable))
+of-requires : tie.Need-of-requires Inv-loop μ-loop
+of-requires c κs = search needs
+
+cast-width : tie.Need-cast-width Inv-loop μ-loop
+cast-width c = search needs
+
+number-requires : tie.Need-number-requires Inv-loop μ-loop
+number-requires c κs = count-inside (c .before .before .before .before .before .before .before .pre .foldable) (ap (λ (r : Command). r .argument) (c .before .of .ensures))
 
 cast-count : tie.Need-cast-count Inv-loop μ-loop
-cast-count c = omega (arith, c .shared-slice-known4 .given 1)
+cast-count c = search needs
 
-shared-slice-read-count-2 : tie.Need-shared-slice-read-count-2 Inv-loop μ-loop
-shared-slice-read-count-2 c = omega (arith, count-inside (c .before .before .before .before .before .before .before .pre .foldable))
-
-cast-count-2 : tie.Need-cast-count-2 Inv-loop μ-loop
-cast-count-2 c = omega (arith, c .shared-slice-known5 .given 2)
-
-mul-count : tie.Need-mul-count Inv-loop μ-loop
-mul-count c = omega (arith, c .shared-slice-known5 .given 2)
-
-add-count : tie.Need-add-count Inv-loop μ-loop
-add-count c = omega (arith, c .shared-slice-known5 .given 1, c .shared-slice-known5 .given 2)
+add-load-node : tie.Need-add-load-node Inv-loop μ-loop
+add-load-node c = search needs
 
 load-node-requires : tie.Need-load-node-requires Inv-loop μ-loop
-load-node-requires c κs = first-ready (c .before .before .before .before .before .before .before .before .pre .foldable) (c .before .before .before .before .before .before .before .before .pre .enough)
+load-node-requires c κs = let start = c .before .before .before .before .before .before .before .before .before in first-ready (start .pre .foldable) (ap (λ (r : Command). r .argument) (c .before .before .before .of .ensures)) (start .pre .enough)
 
 loop-holds : tie.Need-loop-holds Inv-loop μ-loop
 loop-holds c =
-    ((λ st ns h. fold-start h (c .before .before .before .before .before .before .before .before .before .before .before .args .rep .now) refl (c .before .before .load-node .ensures)), refl, refl)
+    ((λ st ns h. fold-start h (ap (λ (r : Command). r .argument) (c .before .before .before .before .before .before .of .ensures)) (c .before .before .before .before .before .before .before .before .before .before .before .before .args .rep .now) (c .before .before .before .before .number .ensures) (c .before .before .load-node .ensures)), refl, refl)
 
 fold-next-requires : tie.Need-fold-next-requires Inv-loop μ-loop
 fold-next-requires c κs =
     let here = c .before .before .before in
-    let ready = here .before .before .before .before .before .before .before .before .before .before .before .before .pre in
+    let ready = here .before .before .before .before .before .before .before .before .before .before .before .before .before .pre in
     turn-ready (here .loop .inv .0 (ready .setting) (ready .listed) (ready .foldable)) (ready .foldable .known) (c .before .before .loop-test .taken) (omega (arith, ready .enough, here .loop .inv .1))
 
 same-length : tie.Need-same-length Inv-loop μ-loop
@@ -64,7 +62,7 @@ returns c =
     }
 
 add-i : tie.Need-add-i Inv-loop μ-loop
-add-i c = omega (arith, c .before .before .before .before .before .before .before .before .before .loop-test .taken, c .before .before .before .before .before .before .before .before .before .before .before .before .before .before .before .shared-slice-known5 .given 1, c .before .before .before .before .before .before .before .before .before .before .before .before .before .before .before .shared-slice-known5 .given 2)
+add-i c = omega (arith, c .before .before .before .before .before .before .before .before .before .loop-test .taken, c .before .before .before .before .before .before .before .before .before .before .before .before .before .before .before .number)
 
 loop-less : tie.Need-loop-less Inv-loop μ-loop
 loop-less c = search needs
@@ -83,7 +81,7 @@ same-length-4 c = c .before .before .loop .inv .2
 returns-2 : tie.Need-returns-2 Inv-loop μ-loop
 returns-2 c =
     let here = c .before .before in
-    record { of = λ st ns h. fold-end (here .loop .inv .0 st ns h) (h .few) (c .before .loop-test .left) (omega (arith, here .before .before .before .before .before .before .before .before .before .before .before .before .pre .enough, here .loop .inv .1)) }
+    record { of = λ st ns h. fold-end (here .loop .inv .0 st ns h) (h .few) (c .before .loop-test .left) (omega (arith, here .before .before .before .before .before .before .before .before .before .before .before .before .before .pre .enough, here .loop .inv .1)) }
 
 pub fold-nodes-spec : {M : Type 1} → statement M
 fold-nodes-spec =
@@ -91,12 +89,11 @@ fold-nodes-spec =
     (tie.spec
     Inv-loop
     μ-loop
-    shared-slice-read-count
+    of-requires
+    cast-width
+    number-requires
     cast-count
-    shared-slice-read-count-2
-    cast-count-2
-    mul-count
-    add-count
+    add-load-node
     load-node-requires
     loop-holds
     fold-next-requires
