@@ -75,10 +75,8 @@ pub head-own : (bs : List ℕ) (h : Head) (rest : List ℕ) → head bs ≡ read
 head-own bs h rest e = reads-is (head-reads bs) e
 
 -- the node that is made of what was read has that own part
-pub own-part : {h : Head} → Own h → (node : Node) {z : Size} → partOf node ≡ partBy (h .command) z (h .argument)
-    → partOf node ≡ record { command = h .command; size = z; argument = h .argument }
-own-part {h} own node {z} made = made ∙ part-is (h .command) z (h .argument) (own .known) (own .bare)
-
-pub node-reads : (bs : List ℕ) {h : Head} {rest : List ℕ} → head bs ≡ read h rest → (node : Node) → partOf node ≡ partBy (h .command) (h .size) (h .argument)
-    → head bs ≡ read (partOf node) rest
-node-reads bs {h} {rest} e node made = e ∙ ap (λ (p : Head). read p rest) (sym (own-part (head-own bs h rest e) node made))
+pub node-reads : (bs : List ℕ) {h : Head} {rest : List ℕ} → head bs ≡ read h rest → (node : Node)
+    → partOf node ≡ partBy (h .command) (h .size) (h .argument) → head bs ≡ read (partOf node) rest
+node-reads bs {h} {rest} e node made =
+    let own = head-own bs h rest e in
+    e ∙ ap (λ (p : Head). read p rest) (sym (made ∙ part-is (h .command) (h .size) (h .argument) (own .known) (own .bare)))

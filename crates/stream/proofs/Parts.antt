@@ -2,7 +2,7 @@
 -- command, its argument and its end do not hang on its size: that only says whether it is read.
 -- Assumes nothing.
 use Prim.Native.Nat.{ℕ, _+_, _-_, _≤_, _<_}
-use mathlib.Core.Path.{_≡_, refl, ap}
+use mathlib.Core.Path.{_≡_, refl, sym, ap, _∙_}
 use mathlib.Core.List.{List}
 use native.Mathlib.Decide.{decLt}
 use native.Mathlib.Omega.{arith}
@@ -10,16 +10,18 @@ use borrow.Author.Tests.{lt-ltb}
 use lib.ListN.{length, getD, drop, length-drop}
 use lib.Seq.{drop-length}
 use Rattle.definitions.specs.If.{if_then_else_}
-use Rattle.definitions.specs.Usage.{Size}
+use Rattle.definitions.specs.Usage.{Size, dynamic}
 use Rattle.definitions.specs.Command.{Head, commandAt, sizeWidth, argumentWidth}
 use Rattle.definitions.specs.Stream.{broken, read, _then_, number, readSize}
 use Rattle.definitions.proofs.Choice.{either}
-use Rattle.definitions.proofs.Reading.{Reads, stops, gives, reads-any, reads-then}
-use Rattle.qptr.specs.Values.{rowOf}
+use Rattle.definitions.proofs.Reading.{Reads, stops, gives, reads-any, reads-then, reads-is, then-agree}
+use Rattle.qptr.specs.Values.{rowOf, partOf, partBy}
 use Rattle.qptr.specs.declared.Command.{Command}
+use Rattle.qptr.specs.declared.Node.{Node}
+use Rattle.qptr.proofs.Nodes.{part-is}
 use Rattle.records.specs.Words.{numberAt}
 use Rattle.records.proofs.Numbers.{number-at, number-short}
-use Rattle.stream.specs.Head.{own, head}
+use Rattle.stream.specs.Head.{own, head, OutlineAt}
 use Rattle.stream.proofs.Places.{byte-at, size-short, size-end}
 use Rattle.stream.proofs.Then.{then-broken}
 
@@ -68,9 +70,6 @@ module _ (s : List ℕ) (at : ℕ) (some : at < length s) where
               rw (end, number-short (row .argument) (drop (at + 1 + row .size) s) (rw length-drop (omega arith)))
         ])
 
-    pub head-sizeless : readSize (row .size) (drop (at + 1) s) ≡ broken → head (drop at s) ≡ broken
-    head-sizeless e = rw (head-by, e)
-
     module _ (long : 1 + row .size + row .argument ≤ length s - at) where
       abbrev argument : ℕ
       argument = numberAt (row .argument) s (at + (1 + row .size))
@@ -83,11 +82,29 @@ module _ (s : List ℕ) (at : ℕ) (some : at < length s) where
           let from : at + 1 + row .size ≡ at + (1 + row .size) = omega arith in
           rw from (number-at (row .argument) s (at + (1 + row .size)) (at + (1 + row .size + row .argument)) (omega arith) (omega arith))
 
-      pub head-whole : {z : Size} → readSize (row .size) (drop (at + 1) s) ≡ read z (drop (at + 1 + row .size) s) → head (drop at s) ≡ own c z argument rest
-      head-whole sized = rw (head-by, sized, argument-here)
+      -- an Unused has no argument
+      bare : c ≡ 0x00 → argument ≡ 0
+      unfolding commandAt numberAt
+      bare e = let none : row .argument ≡ 0 = ap (λ r. r .argument) is ∙ ap argumentWidth e in ap (λ w. numberAt w s (at + (1 + row .size))) none
 
-      pub head-told : Reads (λ h r. (h .command ≡ c) × (h .argument ≡ argument) × (r ≡ rest)) (head (drop at s))
-      head-told =
-          rw head-by
-          (reads-then (size-end (row .size) s (at + 1) (omega arith)) λ z bs end.
-          rw (end, argument-here) (own-told c z argument rest))
+      pub outline-at : (node : Node) → c ≤ 0x04 → partOf node ≡ partBy c dynamic argument → OutlineAt s at node (at + (1 + row .size + row .argument))
+      outline-at node known made =
+          let part = made ∙ part-is c dynamic argument known bare in
+          let command : node .command ≡ c = ap (λ (h : Head). h .command) part in
+          let argued : node .argument ≡ argument = ap (λ (h : Head). h .argument) part in
+          let size : sizeWidth c ≡ row .size = sym (ap (λ r. r .size) is) in
+          record {
+            reads =
+                rw (command, argued, size)
+                (head-by ∙ then-agree (size-end (row .size) s (at + 1) (omega arith)) λ z bs end. rw (end, argument-here));
+            taken = rw (command, size) (omega arith);
+            within = omega arith;
+          }
+
+-- where an own part is read, its command, its argument and its end are those of its outline
+pub outline-same : {s : List ℕ} {at : ℕ} {node : Node} {end : ℕ} → OutlineAt s at node end → (h : Head) (rest : List ℕ) → head (drop at s) ≡ read h rest
+    → (h .command ≡ node .command) × (h .argument ≡ node .argument) × (rest ≡ drop end s)
+outline-same {s} {at} {node} {end} part h rest e =
+    reads-is
+    (reads-then (reads-any (readSize (sizeWidth (node .command)) (drop (at + 1) s))) λ z left _. own-told (node .command) z (node .argument) (drop end s))
+    (sym (part .reads) ∙ e)

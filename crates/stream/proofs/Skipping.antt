@@ -18,6 +18,7 @@ use Rattle.stream.specs.declared.Next.the-variants as nexts
 use Rattle.stream.specs.declared.Skipped.the-variants as skips
 use Rattle.stream.proofs.Owing.{pending-start}
 use Rattle.stream.proofs.Stepping.{pending-stop, pending-on}
+use Rattle.stream.proofs.Parts.{outline-same}
 use Rattle.stream.proofs.Then.{never}
 
 -- if the node at `from` reads, so does what a walk goes on with, to the same end
@@ -65,7 +66,7 @@ module _ (s : List ℕ) (from : ℕ) where
           → Leads s from (behind (walk .n + 1) (max (walk .t) (ownBound (partOf node))) (partOf node) owed (drop end s))
       past-by broken e x rest p = never (sym (pending-stop (walk .n) (walk .t) owed (drop at s) e) ∙ walk .leads x rest p)
       past-by (read h bs) e x rest p =
-          let is = part .same h bs e in
+          let is = outline-same part h bs e in
           sym (behind-alike (walk .n + 1) (walk .t) h (partOf node) owed bs (drop end s) (is .0) (is .1) (is .2))
           ∙ pending-on (walk .n) (walk .t) owed (drop at s) h bs e (walk .leads x rest p)
 

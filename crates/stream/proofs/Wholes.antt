@@ -9,7 +9,7 @@ use lib.ListN.{length, drop, length-drop}
 use lib.Seq.{drop-length}
 use Rattle.definitions.specs.Usage.{opaque}
 use Rattle.definitions.specs.Command.{argumentWidth}
-use Rattle.definitions.specs.Stream.{Read, broken, read, _then_, number, whole}
+use Rattle.definitions.specs.Stream.{Read, broken, read, _then_, whole}
 use Rattle.definitions.proofs.Reading.{Reads, stops, gives}
 use Rattle.records.specs.Words.{numberAt}
 use Rattle.records.proofs.Numbers.{number-at}

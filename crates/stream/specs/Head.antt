@@ -53,10 +53,10 @@ abbrev pub Shows : List ℕ → ℕ → HeaderAt → Type 0
 Shows s at (headers.Header node end) = PartAt s at node end
 Shows s at headers.Broken = head (drop at s) ≡ broken
 
--- the own part at a place of s, but for its size, if there is one: whether there is, is not said
+-- the own part at a place of s, but for its size, which says whether there is one
 pub record OutlineAt (s : List ℕ) (at : ℕ) (node : Node) (end : ℕ) : Type 0 where
-  pub same : (h : Head) (rest : List ℕ) → head (drop at s) ≡ read h rest → (h .command ≡ node .command) × (h .argument ≡ node .argument) × (rest ≡ drop end s)
-  pub taken : at < end
+  pub reads : head (drop at s) ≡ readSize (sizeWidth (node .command)) (drop (at + 1) s) then λ z left. own (node .command) z (node .argument) (drop end s)
+  pub taken : at + sizeWidth (node .command) < end
   pub within : end ≤ length s
 
 -- the same, or that there is none

@@ -112,32 +112,64 @@ fn known(command: u8, argument: u32) -> bool
     argument != 0
 }
 
+// The own part with this command at `at`, but for its size: the size told is none, and the stride is not looked at.
+fn outlined(s: &[u8], at: usize, command: u8) -> HeaderAt
+    requires { ⌜ (at < length (now s)) × (getD (now s) at 0 ≡ command) × (command ≤ 0x04) ⌝ }
+    ensures { λ r. ⌜ Outlines (now (s .entry)) at r ⌝ }
+{
+    let row = Command::of(command);
+    let before = 1 + row.size as usize;
+    let width = before + row.argument as usize;
+    if s.len() - at < width {
+        return HeaderAt::Broken;
+    }
+    let argument = number(s, at + before, row.argument as usize);
+    HeaderAt::Header {
+        node: Node::of(command, MaxSize::Dynamic, argument),
+        end: at + width,
+    }
+}
+
+// The own part at `at`, but for its size, which only says whether there is one. `skip` needs no more, because it answers only for what
+// is a node, and it should not do more, because it may pass a node many times. Each command has an arm of its own, where its widths are
+// constants, so that the processor foresees the next place and does not wait for this command and the table.
+fn outline(s: &[u8], at: usize) -> HeaderAt
+    requires { ⌜ at ≤ length (now s) ⌝ }
+    ensures { λ r. ⌜ Outlines (now (s .entry)) at r ⌝ }
+{
+    if s.len() == at {
+        return HeaderAt::Broken;
+    }
+    let command = s[at];
+    match command {
+        UNUSED => outlined(s, at, UNUSED),
+        STRICTLY_TYPED => outlined(s, at, STRICTLY_TYPED),
+        DIRECT_ACCESS => outlined(s, at, DIRECT_ACCESS),
+        MAP => outlined(s, at, MAP),
+        ARRAY => outlined(s, at, ARRAY),
+        _ => HeaderAt::Broken,
+    }
+}
+
 // The own part of the node at `at`: its command, its size and its argument.
 pub fn header(s: &[u8], at: usize) -> HeaderAt
     requires { ⌜ at ≤ length (now s) ⌝ }
     ensures { λ r. ⌜ Shows (now (s .entry)) at r ⌝ }
 {
-    let left = s.len() - at;
-    if left == 0 {
-        return HeaderAt::Broken;
-    }
-    let command = s[at];
-    let row = Command::of(command);
-    let before = 1 + row.size as usize;
-    let width = before + row.argument as usize;
-    if left < width {
-        return HeaderAt::Broken;
-    }
-    let SizeAt::Size(size) = size(s, at + 1, row.size as usize) else {
+    let HeaderAt::Header { node, end } = outline(s, at) else {
         return HeaderAt::Broken;
     };
-    let argument = number(s, at + before, row.argument as usize);
+    let command = node.command;
+    let argument = node.argument;
+    let SizeAt::Size(size) = size(s, at + 1, Command::of(command).size as usize) else {
+        return HeaderAt::Broken;
+    };
     if !known(command, argument) {
         return HeaderAt::Broken;
     }
     HeaderAt::Header {
         node: Node::of(command, size, argument),
-        end: at + width,
+        end,
     }
 }
 
@@ -183,45 +215,6 @@ fn past(s: &[u8], node: Node, end: usize, owed: usize) -> Next
     Next::Node {
         at: end + 4,
         owed: owing - 1,
-    }
-}
-
-// The own part with this command at `at`, if there is one: its size and its stride are not looked at, so the size told is none.
-fn outlined(s: &[u8], at: usize, command: u8) -> HeaderAt
-    requires { ⌜ (at < length (now s)) × (getD (now s) at 0 ≡ command) ⌝ }
-    ensures { λ r. ⌜ Outlines (now (s .entry)) at r ⌝ }
-{
-    let row = Command::of(command);
-    let before = 1 + row.size as usize;
-    let width = before + row.argument as usize;
-    if s.len() - at < width {
-        return HeaderAt::Broken;
-    }
-    let argument = number(s, at + before, row.argument as usize);
-    HeaderAt::Header {
-        node: Node::of(command, MaxSize::Dynamic, argument),
-        end: at + width,
-    }
-}
-
-// The own part at `at`, if there is one. It may be lean, because `skip` answers only for what is a node: whether it is one, `node`
-// looks at when it comes there. And it should be, because `skip` may pass a node many times. Each command has an arm of its own,
-// where its widths are constants, so that the processor foresees the next place and does not wait for this command and the table.
-fn outline(s: &[u8], at: usize) -> HeaderAt
-    requires { ⌜ at ≤ length (now s) ⌝ }
-    ensures { λ r. ⌜ Outlines (now (s .entry)) at r ⌝ }
-{
-    if s.len() == at {
-        return HeaderAt::Broken;
-    }
-    let command = s[at];
-    match command {
-        UNUSED => outlined(s, at, UNUSED),
-        STRICTLY_TYPED => outlined(s, at, STRICTLY_TYPED),
-        DIRECT_ACCESS => outlined(s, at, DIRECT_ACCESS),
-        MAP => outlined(s, at, MAP),
-        ARRAY => outlined(s, at, ARRAY),
-        _ => HeaderAt::Broken,
     }
 }
 

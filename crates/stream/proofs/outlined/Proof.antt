@@ -1,16 +1,13 @@
 -- `outlined` meets its contract: the argument stands behind the size, both in the bytes that the command's row gives them.
 -- Assumes nothing.
-use mathlib.Core.Path.{_≡_, sym, ap, _∙_}
+use mathlib.Core.Path.{_≡_, ap}
 use native.Mathlib.Omega.{arith}
 use borrow.Author.Needs.{needs}
 use lib.ListN.{getD}
-use Rattle.definitions.specs.Usage.{dynamic}
 use Rattle.definitions.specs.Command.{commandAt}
-use Rattle.definitions.proofs.Reading.{reads-is}
 use Rattle.qptr.specs.Values.{rowOf}
 use Rattle.records.proofs.Widths.{argument-width}
-use Rattle.stream.proofs.Heads.{head-own, own-part}
-use Rattle.stream.proofs.Parts.{head-cut, head-told}
+use Rattle.stream.proofs.Parts.{head-cut, outline-at}
 use Rattle.stream.proofs.outlined.Statement.{statement}
 use Rattle.stream.proofs.outlined.Tie as tie
 
@@ -57,18 +54,10 @@ add-t8 c = search needs
 
 returns-2 : tie.Need-returns-2
 returns-2 c =
-    let a = c .before .before .before .before .before .before .before .before .args in
-    let row = c .before .before .before .before .before .before .of in
-    record {
-      same = λ h rest e.
-          let told = reads-is (head-told (a .s .now) (a .at) (omega arith) (row .result) (row-is (c .before .before .before .before .before .before)) (omega arith)) e in
-          let command : h .command ≡ a .command = told .0 ∙ c .before .before .before .before .before .before .before .before .pre .1 in
-          let argument : h .argument ≡ c .before .number .result = told .1 ∙ sym (c .before .number .ensures) in
-          let part = own-part (head-own _ h rest e) (c .of2 .result) {z = dynamic} (rw (command, argument) (c .of2 .ensures)) in
-          (sym (ap (λ p. p .command) part), sym (ap (λ p. p .argument) part), told .2);
-      taken = omega arith;
-      within = omega arith;
-    }
+    let start = c .before .before .before .before .before .before .before .before in
+    let after = c .before .before .before .before .before .before in
+    outline-at (start .args .s .now) (start .args .at) (omega arith) (after .of .result) (row-is after) (omega arith) (c .of2 .result)
+    (omega arith) (rw (start .pre .1, ← c .before .number .ensures) (c .of2 .ensures))
 
 pub outlined-spec : {M : Type 1} → statement M
 outlined-spec =
