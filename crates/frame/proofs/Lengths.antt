@@ -105,5 +105,7 @@ line-held {input} {buffer} {buffer′} {n} P room =
     record {
       within = omega arith;
       is = rw (all .0) (all .1 (omega arith));
-      rest = ext-getD 0 (drop n buffer′) (drop n buffer) (simp length-drop (omega arith)) (λ i lt. rw (getD-drop n buffer′ i 0, getD-drop n buffer i 0) (P .behind (omega arith) (n + i) (omega arith)));
+      rest =
+          ext-getD 0 (drop n buffer′) (drop n buffer) (simp length-drop (omega arith))
+          (λ i lt. rw (getD-drop n buffer′ i 0, getD-drop n buffer i 0) (P .behind (omega arith) (n + i) (omega arith)));
     }

@@ -16,7 +16,8 @@ put-byte line at b line′ at′ e p =
 pub put-nothing : (line : List ℕ) (at : ℕ) → at < 2 ^ 64 → Put line at [] line at
 put-nothing line at h = record { emitted = emitted-nothing line at h; behind = λ _ i le. refl }
 
-pub put-after : {line : List ℕ} {at : ℕ} {xs line₁ : List ℕ} {at₁ : ℕ} {ys line₂ : List ℕ} {at₂ : ℕ} → Put line at xs line₁ at₁ → Put line₁ at₁ ys line₂ at₂ → Put line at (xs ++ ys) line₂ at₂
+pub put-after : {line : List ℕ} {at : ℕ} {xs line₁ : List ℕ} {at₁ : ℕ} {ys line₂ : List ℕ} {at₂ : ℕ}
+    → Put line at xs line₁ at₁ → Put line₁ at₁ ys line₂ at₂ → Put line at (xs ++ ys) line₂ at₂
 put-after {xs} {ys} A B =
     let both : length (xs ++ ys) ≡ length xs + length ys = length-append xs ys in
     record {

@@ -135,11 +135,19 @@ same-length c = search needs
 same-length-2 : tie.Need-same-length-2
 same-length-2 c = search needs
 
-long : (c : tie.After-slice-known4) → length (take (c .before .before .before .before .before .before .before .before .before .before .before .before .before .before .before .before .before .get32 .result) (c .before .before .before .before .before .before .before .before .before .before .before .before .before .before .before .before .before .before .work-area .result)) ≡ word (c .before .before .before .before .before .before .before .before .before .before .before .before .before .before .before .before .before .before .before .before .before .before .args .s .now) 1
-long c = simp length-take (omega (arith, c .before .before .before .before .before .before .before .before .before .before .before .before .before .before .before .before .before .get32 .ensures, c .before .before .before .before .before .before .before .before .before .before .before .before .before .before .before .before .before .before .work-area .ensures, c .before .before .before .before .before .before .before .before .before .before .before .before .before .before .before .before .before .before .before .before .before .before .pre .fits .work))
+long : (c : tie.After-get32) → length (take (c .get32 .result) (c .before .work-area .result))
+    ≡ word (c .before .before .before .before .before .args .s .now) 1
+long c = simp length-take (omega arith)
 
 returns : tie.Need-returns
-returns c = let a = c .before .before .before .before .before .before .before .before .before .before .before .before .before .before .before .before .before .before .before .before .before .before .args in rw (is-place (a .s .now) (a .p) (a .output .now) (length (a .rep .now)) (getD (a .s .now) 0 0) _ _ (c .before .before .before .before .before .before .before .before .before .before .before .before .before .match .keys1) (long c) (c .before .before .before .before .before .before .before .before .before .before .before .before .get322 .ensures)) at (c .before .before .before .before .before .place .ensures)
+returns c =
+    let placed : _ = c .before .before .before .before .before in
+    let offset : _ = placed .before .before .before .before .before .before .before in
+    let matched : _ = offset .before in
+    let sized : _ = matched .before .before .before .before in
+    let a : _ = sized .before .before .before .before .before .args in
+    rw (is-place (a .s .now) (a .p) (a .output .now) (length (a .rep .now)) (getD (a .s .now) 0 0) _ _
+    (matched .match .keys1) (long sized) (offset .get322 .ensures)) at (placed .place .ensures)
 
 same-length-3 : tie.Need-same-length-3
 same-length-3 c = search needs
@@ -147,11 +155,14 @@ same-length-3 c = search needs
 same-length-4 : tie.Need-same-length-4
 same-length-4 c = search needs
 
-long-2 : (c : tie.After-slice-known6) → length (take (c .before .before .before .before .before .before .before .before .before .before .before .before .before .before .before .before .get32 .result) (c .before .before .before .before .before .before .before .before .before .before .before .before .before .before .before .before .before .work-area .result)) ≡ word (c .before .before .before .before .before .before .before .before .before .before .before .before .before .before .before .before .before .before .before .before .before .args .s .now) 1
-long-2 c = simp length-take (omega (arith, c .before .before .before .before .before .before .before .before .before .before .before .before .before .before .before .before .get32 .ensures, c .before .before .before .before .before .before .before .before .before .before .before .before .before .before .before .before .before .work-area .ensures, c .before .before .before .before .before .before .before .before .before .before .before .before .before .before .before .before .before .before .before .before .before .pre .fits .work))
-
 returns-2 : tie.Need-returns-2
-returns-2 c = let a = c .before .before .before .before .before .before .before .before .before .before .before .before .before .before .before .before .before .before .before .before .before .args in rw (is-merge (a .s .now) (a .p) (a .output .now) (length (a .rep .now)) (getD (a .s .now) 0 0) _ (c .before .before .before .before .before .before .before .before .before .before .before .before .match .keys2) (long-2 c)) at (c .before .before .before .before .before .merge .ensures)
+returns-2 c =
+    let merged : _ = c .before .before .before .before .before in
+    let matched : _ = merged .before .before .before .before .before .before .before in
+    let sized : _ = matched .before .before .before .before in
+    let a : _ = sized .before .before .before .before .before .args in
+    rw (is-merge (a .s .now) (a .p) (a .output .now) (length (a .rep .now)) (getD (a .s .now) 0 0) _ (matched .match .keys2) (long sized)) at
+    (merged .merge .ensures)
 
 same-length-5 : tie.Need-same-length-5
 same-length-5 c = search needs
@@ -159,11 +170,14 @@ same-length-5 c = search needs
 same-length-6 : tie.Need-same-length-6
 same-length-6 c = search needs
 
-long-3 : (c : tie.After-slice-known8) → length (take (c .before .before .before .before .before .before .before .before .before .before .before .before .before .before .before .get32 .result) (c .before .before .before .before .before .before .before .before .before .before .before .before .before .before .before .before .work-area .result)) ≡ word (c .before .before .before .before .before .before .before .before .before .before .before .before .before .before .before .before .before .before .before .before .args .s .now) 1
-long-3 c = simp length-take (omega (arith, c .before .before .before .before .before .before .before .before .before .before .before .before .before .before .before .get32 .ensures, c .before .before .before .before .before .before .before .before .before .before .before .before .before .before .before .before .work-area .ensures, c .before .before .before .before .before .before .before .before .before .before .before .before .before .before .before .before .before .before .before .before .pre .fits .work))
-
 returns-3 : tie.Need-returns-3
-returns-3 c = let a = c .before .before .before .before .before .before .before .before .before .before .before .before .before .before .before .before .before .before .before .before .args in rw (is-fold (a .s .now) (a .p) (a .output .now) (length (a .rep .now)) (getD (a .s .now) 0 0) _ (c .before .before .before .before .before .before .before .before .before .before .before .match .rest .0 .1) (c .before .before .before .before .before .before .before .before .before .before .before .match .rest .1) (long-3 c)) at (c .before .before .before .before .before .fold .ensures .0)
+returns-3 c =
+    let folded : _ = c .before .before .before .before .before in
+    let matched : _ = folded .before .before .before .before .before .before in
+    let sized : _ = matched .before .before .before .before in
+    let a : _ = sized .before .before .before .before .before .args in
+    rw (is-fold (a .s .now) (a .p) (a .output .now) (length (a .rep .now)) (getD (a .s .now) 0 0) _
+    (matched .match .rest .0 .1) (matched .match .rest .1) (long sized)) at (folded .fold .ensures .0)
 
 pub call-spec : {M : Type 1} → statement M
 call-spec =

@@ -74,7 +74,11 @@ returns-7 c =
       table = table (c .before .before .before .before .before .before .before .before .before .before .before) .some;
       first = first (c .before .before .before .before .before .before .before) .some;
       second = second (c .before .before .before) .some;
-      is = parts-are _ _ _ _ (table (c .before .before .before .before .before .before .before .before .before .before .before) .ends) (first (c .before .before .before .before .before .before .before) .ends) (second (c .before .before .before) .ends);
+      is =
+          parts-are _ _ _ _
+          (table (c .before .before .before .before .before .before .before .before .before .before .before) .ends)
+          (first (c .before .before .before .before .before .before .before) .ends)
+          (second (c .before .before .before) .ends);
       inside = let e = second (c .before .before .before) in omega arith;
       fits = rw (not-false (c .before .sized .result) (c .if3 .left)) at (c .before .sized .ensures);
     }

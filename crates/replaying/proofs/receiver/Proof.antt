@@ -68,13 +68,32 @@ same-requires-2 : tie.Need-same-requires-2
 same-requires-2 c κs = search needs
 
 returns : tie.Need-returns
-returns c = λ e. let a = c .before .before .before .before .before .before .before .before .args in handed (a .s .now) (a .p) (c .before .get32 .result) (c .before .before .receiver .result .now) (c .before .get32 .ensures) (c .before .before .receiver .ensures) (rw (c .match .keys1, empty (c .before .before .receiver .result .now) (eqb-true _ _ e)) nobody)
+returns c =
+    λ e.
+    let got : _ = c .before .before in
+    let a : _ = got .before .before .before .before .before .before .args in
+    handed (a .s .now) (a .p) (c .before .get32 .result) (got .receiver .result .now) (c .before .get32 .ensures) (got .receiver .ensures)
+    (rw (c .match .keys1, empty (got .receiver .result .now) (eqb-true _ _ e)) nobody)
 
 returns-2 : tie.Need-returns-2
-returns-2 c = λ e. let a = c .before .before .before .before .before .before .before .before .before .before .args in handed (a .s .now) (a .p) (c .before .before .before .get32 .result) (c .before .before .before .before .receiver .result .now) (c .before .before .before .get32 .ensures) (c .before .before .before .before .receiver .ensures) (rw (c .before .before .match .keys2, c .same .ensures .0 e) the-first)
+returns-2 c =
+    λ e.
+    let matched : _ = c .before .before in
+    let number : _ = matched .before in
+    let got : _ = number .before in
+    let a : _ = got .before .before .before .before .before .before .args in
+    handed (a .s .now) (a .p) (number .get32 .result) (got .receiver .result .now) (number .get32 .ensures) (got .receiver .ensures)
+    (rw (matched .match .keys2, c .same .ensures .0 e) the-first)
 
 returns-3 : tie.Need-returns-3
-returns-3 c = λ e. let a = c .before .before .before .before .before .before .before .before .before .before .args in handed (a .s .now) (a .p) (c .before .before .before .get32 .result) (c .before .before .before .before .receiver .result .now) (c .before .before .before .get32 .ensures) (c .before .before .before .before .receiver .ensures) (rw (c .before .before .match .keys3, c .same2 .ensures .0 e) the-second)
+returns-3 c =
+    λ e.
+    let matched : _ = c .before .before in
+    let number : _ = matched .before in
+    let got : _ = number .before in
+    let a : _ = got .before .before .before .before .before .before .args in
+    handed (a .s .now) (a .p) (number .get32 .result) (got .receiver .result .now) (number .get32 .ensures) (got .receiver .ensures)
+    (rw (matched .match .keys3, c .same2 .ensures .0 e) the-second)
 
 returns-4 : tie.Need-returns-4
 returns-4 c = λ e. let z : _≡_ {A = ℕ} 0 1 = cc in absurd (omega arith)

@@ -6,7 +6,7 @@ use mathlib.Core.Path.{refl, sym}
 use lib.ListN.{getD}
 use Rattle.replaying.specs.Parts.{Whole}
 use Rattle.replaying.specs.Agrees.{writing}
-use Rattle.replaying.proofs.Agreeing.{single, agreed}
+use Rattle.replaying.proofs.Agreeing.{ran}
 use Rattle.replaying.proofs.run.Statement.{statement}
 use Rattle.replaying.proofs.run.Tie as tie
 
@@ -53,16 +53,25 @@ compared-requires-4 : tie.Need-compared-requires-4
 compared-requires-4 c κs = search needs
 
 returns-2 : tie.Need-returns-2
-returns-2 c = (single (c .before .receiver .result) (c .compared .result) (c .compared .ensures), agreed (whole (c .before .before .before .before) .is) (c .before .receiver .result) (c .compared .result) (c .compared .ensures) (sym (c .before .before .match2 .keys1)) (c .before .receiver .ensures))
+returns-2 c =
+    ran (whole (c .before .before .before .before) .is) (c .before .receiver .result) (c .compared .result) (c .compared .ensures)
+    (sym (c .before .before .match2 .keys1)) (c .before .receiver .ensures)
 
 returns-3 : tie.Need-returns-3
-returns-3 c = (single (c .before .supports .result) (c .compared2 .result) (c .compared2 .ensures), agreed (whole (c .before .before .before .before) .is) (c .before .supports .result) (c .compared2 .result) (c .compared2 .ensures) (sym (c .before .before .match2 .keys2)) (c .before .supports .ensures))
+returns-3 c =
+    ran (whole (c .before .before .before .before) .is) (c .before .supports .result) (c .compared2 .result) (c .compared2 .ensures)
+    (sym (c .before .before .match2 .keys2)) (c .before .supports .ensures)
 
 returns-4 : tie.Need-returns-4
-returns-4 c = (single (c .before .sound .result) (c .compared3 .result) (c .compared3 .ensures), agreed (whole (c .before .before .before .before) .is) (c .before .sound .result) (c .compared3 .result) (c .compared3 .ensures) (sym (c .before .before .match2 .keys3)) (c .before .sound .ensures))
+returns-4 c =
+    ran (whole (c .before .before .before .before) .is) (c .before .sound .result) (c .compared3 .result) (c .compared3 .ensures)
+    (sym (c .before .before .match2 .keys3)) (c .before .sound .ensures)
 
 returns-5 : tie.Need-returns-5
-returns-5 c = (single (c .before .writing .result) (c .compared4 .result) (c .compared4 .ensures), agreed (whole (c .before .before .before .before .before) .is) (c .before .writing .result) (c .compared4 .result) (c .compared4 .ensures) refl (λ e. writing (getD (c .before .before .before .before .before .before .before .before .before .before .args .s .now) 0 0) (omega arith) (omega arith) (c .before .writing .ensures e)))
+returns-5 c =
+    ran (whole (c .before .before .before .before .before) .is) (c .before .writing .result) (c .compared4 .result) (c .compared4 .ensures)
+    refl
+    (λ e. writing (getD (c .before .before .before .before .before .before .before .before .before .before .args .s .now) 0 0) (omega arith) (omega arith) (c .before .writing .ensures e))
 
 returns-6 : tie.Need-returns-6
 returns-6 c = search needs

@@ -54,11 +54,16 @@ add-answered c = search needs
 answered-requires : tie.Need-answered-requires
 answered-requires c κs = search needs
 
-long : (c : tie.After-answered) → length (take (c .before .before .before .before .before .before .before .before .get32 .result) (c .before .before .before .before .before .before .before .before .before .work-area .result)) ≡ word (c .before .before .before .before .before .before .before .before .before .before .before .args .s .now) 1
+long : (c : tie.After-get32) → length (take (c .get32 .result) (c .before .work-area .result)) ≡ word (c .before .before .before .args .s .now) 1
 long c = simp length-take (omega arith)
 
 returns : tie.Need-returns
-returns c = λ e. sounded (c .before .before .before .before .before .before .before .before .before .before .before .args .s .now) (c .before .before .before .before .before .before .before .before .before .before .before .args .p) (c .before .before .before .sound .result) _ (long c) (c .before .before .before .sound .ensures) (c .answered .ensures e)
+returns c =
+    λ e.
+    let called : _ = c .before .before .before in
+    let sized : _ = called .before .before .before .before .before in
+    let a : _ = sized .before .before .before .args in
+    sounded (a .s .now) (a .p) (called .sound .result) _ (long sized) (called .sound .ensures) (c .answered .ensures e)
 
 pub sound-spec : {M : Type 1} → statement M
 sound-spec =

@@ -60,11 +60,19 @@ add-answered c = search needs
 answered-requires : tie.Need-answered-requires
 answered-requires c κs = search needs
 
-long : (c : tie.After-answered) → length (take (c .before .before .before .before .before .before .before .before .before .before .get32 .result) (c .before .before .before .before .before .before .before .before .before .before .before .work-area .result)) ≡ word (c .before .before .before .before .before .before .before .before .before .before .before .before .before .args .s .now) 1
+long : (c : tie.After-get32) → length (take (c .get32 .result) (c .before .work-area .result)) ≡ word (c .before .before .before .args .s .now) 1
 long c = simp length-take (omega arith)
 
 returns : tie.Need-returns
-returns c = λ e. supported (c .before .before .before .before .before .before .before .before .before .before .before .before .before .args .s .now) (c .before .before .before .before .before .before .before .before .before .before .before .before .before .args .p) (c .before .before .before .supports .result) _ _ _ (long c) (c .before .before .before .before .before .before .before .before .before .get322 .ensures) (c .before .before .before .before .before .before .before .before .get323 .ensures) (c .before .before .before .supports .ensures) (c .answered .ensures e)
+returns c =
+    λ e.
+    let called : _ = c .before .before .before in
+    let offset : _ = called .before .before .before .before .before in
+    let type : _ = offset .before in
+    let sized : _ = type .before in
+    let a : _ = sized .before .before .before .args in
+    supported (a .s .now) (a .p) (called .supports .result) _ _ _ (long sized) (type .get322 .ensures) (offset .get323 .ensures)
+    (called .supports .ensures) (c .answered .ensures e)
 
 pub supports-spec : {M : Type 1} → statement M
 supports-spec =

@@ -58,8 +58,16 @@ same-length-4 c = search needs
 returns-2 : tie.Need-returns-2
 returns-2 c =
     λ e.
-    let a = c .before .before .before .before .before .before .before .before .before .before .before .before .before .before .before .before .before .before .before .before .before .before .before .before .before .args in
-    rw (c .before .before .before .before .before .before .before .before .before .before .before .before .before .before .before .before .before .before .before .fill .ensures, c .before .before .before .before .before .before .before .before .before .before .before .before .before .before .fill2 .ensures, length-replicate, ← c .before .before .before .before .before .before .before .before .before .before .before .before .before .before .before .before .before .before .before .before .before .before .before .before .before .pre .1 .0, ← c .before .before .before .before .before .before .before .before .before .before .before .before .before .before .before .before .before .before .before .before .before .before .before .before .before .pre .1 .1) at (wrote (a .s .now) (a .p) _ _ (getD (a .s .now) 0 0) (c .before .before .before .before .before .before .before .before .before .call .ensures) (c .before .before .before .before .answered .ensures (not-false (c .before .before .before .before .answered .result) (c .before .before .before .if1 .left))) (c .wrote .ensures e))
+    let tested : _ = c .before .before .before in
+    let compared : _ = tested .before in
+    let called : _ = compared .before .before .before .before .before in
+    let second : _ = called .before .before .before .before .before in
+    let first : _ = second .before .before .before .before .before in
+    let start : _ = first .before .before .before .before .before .before in
+    let a : _ = start .args in
+    rw (first .fill .ensures, second .fill2 .ensures, length-replicate, ← start .pre .1 .0, ← start .pre .1 .1) at
+    (wrote (a .s .now) (a .p) _ _ (getD (a .s .now) 0 0) (called .call .ensures)
+    (compared .answered .ensures (not-false (compared .answered .result) (tested .if1 .left))) (c .wrote .ensures e))
 
 pub written-spec : {M : Type 1} → statement M
 written-spec =

@@ -57,7 +57,15 @@ begins-requires-2 : tie.Need-begins-requires-2
 begins-requires-2 c κs = search needs
 
 returns-2 : tie.Need-returns-2
-returns-2 c = λ e. record { usage = rw (c .before .before .before .before .before .before .get32 .ensures) at (c .before .before .before .begins .ensures (not-false (c .before .before .before .begins .result) (c .before .before .if1 .left))); text = rw (c .before .before .before .before .before .before .get32 .ensures) at (c .begins2 .ensures e) }
+returns-2 c =
+    λ e.
+    let tested : _ = c .before .before in
+    let first : _ = tested .before in
+    let length : _ = first .before .before .before in
+    record {
+      usage = rw (length .get32 .ensures) at (first .begins .ensures (not-false (first .begins .result) (tested .if1 .left)));
+      text = rw (length .get32 .ensures) at (c .begins2 .ensures e);
+    }
 
 pub wrote-spec : {M : Type 1} → statement M
 wrote-spec =
