@@ -34,6 +34,9 @@ module _ (s : List ℕ) (h : Head) (end owed : ℕ) (within : end ≤ length s) 
     goes-entry fit some =
         let more : x ≡ suc (x - 1) = omega arith in
         record {
-          same = λ n t. else-owing n t ∙ ap (λ k. owing n t k (drop end s)) more ∙ owing-entry n t (x - 1) (drop end s) _ _ (number-at 4 s end (end + 4) refl (omega arith));
+          same = λ n t.
+              else-owing n t
+              ∙ ap (λ k. owing n t k (drop end s)) more
+              ∙ owing-entry n t (x - 1) (drop end s) _ _ (number-at 4 s end (end + 4) refl (omega arith));
           within = (omega arith, omega arith, omega arith);
         }

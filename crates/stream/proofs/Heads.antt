@@ -41,9 +41,11 @@ module _ (c : ℕ) (s : Size) (n : ℕ) (rest : List ℕ) where
 
   own-own : (c ≡ 0x00 → n ≡ 0) → Reads (λ h rest. Own h) (own c s n rest)
   own-own bare =
-      decide (Reads _) _ (λ _. stops) λ e. decide (Reads _) _
-      (λ _. decide (Reads _) _ (λ _. stops) λ z. gives _ rest (record { known = omega (arith, ltb-false 0x04 c e); stride = λ _. eqb-false n 0 z; bare = bare }))
-      λ ne. gives _ rest (record { known = omega (arith, ltb-false 0x04 c e); stride = λ is. absurd (eqb-false c 0x04 ne is); bare = bare })
+      decide (Reads _) _ (λ _. stops) λ e.
+      let known : c ≤ 0x04 = omega (arith, ltb-false 0x04 c e) in
+      decide (Reads _) _
+      (λ _. decide (Reads _) _ (λ _. stops) λ z. gives _ rest (record { known = known; stride = λ _. eqb-false n 0 z; bare = bare }))
+      λ ne. gives _ rest (record { known = known; stride = λ is. absurd (eqb-false c 0x04 ne is); bare = bare })
 
 -- what follows an own part is read by its command
 pub node-head : (node : List ℕ → Read Usage) (bs : List ℕ) → nodeBy node bs ≡ head bs then below node

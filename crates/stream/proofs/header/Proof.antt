@@ -28,7 +28,9 @@ returns : tie.Need-returns
 returns c = rw (c .enum-told .given .1) at (c .before .before .outline .ensures)
 
 part : (c : tie.After-known-told)
-    → (let told = c .before .node .given .0 in OutlineAt (c .before .before .before .before .before .args .s .now) (c .before .before .before .before .before .args .at) (told .0) (told .1 .0))
+    → (let a = c .before .before .before .before .before .args in
+    let told = c .before .node .given .0 in
+    OutlineAt (a .s .now) (a .at) (told .0) (told .1 .0))
 part c = rw (c .before .node .given .1) at (c .before .before .before .outline .ensures)
 
 add-size : tie.Need-add-size
@@ -70,7 +72,8 @@ whole : (c : tie.After-known)
     head (drop (a .at) (a .s .now)) ≡ (if c .known .result then read own (drop (told .1 .0) (a .s .now)) else broken))
 whole c =
     let sized = rw (c .before .before .size2 .given .1) at (c .before .before .before .before .size .ensures) in
-    rw (part (c .before .before .before .before .before .before .before) .reads, ← width (c .before .before .before .before .before .before), sized) (c .known .ensures _ _)
+    let after = c .before .before .before .before .before .before in
+    rw (part (after .before) .reads, ← width after, sized) (c .known .ensures _ _)
 
 returns-3 : tie.Need-returns-3
 unfolding if_then_else_
@@ -83,8 +86,9 @@ returns-4 : tie.Need-returns-4
 unfolding if_then_else_
 returns-4 c =
     let here = part (c .before .before .before .before .before .before .before .before .before) in
+    let read = rw (not-false (c .before .before .known .result) (c .before .if1 .left)) at (whole (c .before .before)) in
     record {
-      reads = node-reads _ (rw (not-false (c .before .before .known .result) (c .before .if1 .left)) at (whole (c .before .before))) (c .of2 .result) (c .of2 .ensures);
+      reads = node-reads _ read (c .of2 .result) (c .of2 .ensures);
       taken = omega (arith, here .taken);
       within = here .within;
     }

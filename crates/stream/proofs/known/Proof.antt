@@ -1,5 +1,6 @@
 -- `known` meets its contract: both make the same tests, in the same order.
 -- Assumes nothing.
+use native.Mathlib.Omega.{arith}
 use borrow.Author.Tests.{ne-eqb, lt-ltb, le-ltb}
 use Rattle.definitions.specs.If.{if_then_else_}
 use Rattle.stream.proofs.Deciding.{known-array}
@@ -8,11 +9,13 @@ use Rattle.stream.proofs.known.Tie as tie
 
 returns : tie.Need-returns
 unfolding if_then_else_
-returns c z rest = rw (lt-ltb _ _ (c .if1 .taken))
+returns c z rest = rw (lt-ltb 0x04 (c .before .args .command) (omega arith))
 
 returns-2 : tie.Need-returns-2
 unfolding if_then_else_
-returns-2 c z rest = rw (le-ltb _ _ (c .before .if1 .left), ne-eqb _ _ (c .if2 .taken))
+returns-2 c z rest =
+    let k = c .before .before .args .command in
+    rw (le-ltb 0x04 k (omega arith), ne-eqb k 0x04 (c .if2 .taken))
 
 returns-3 : tie.Need-returns-3
 returns-3 c z rest = rw (c .if2 .left) (known-array (c .before .before .args .argument) z rest)

@@ -45,7 +45,9 @@ several-requires : tie.Need-several-requires
 several-requires c κs = search needs
 
 returns-5 : tie.Need-returns-5
-returns-5 c = c .several .ensures ∙ sym (list-nodes (begun (c .before .before .before .before .before)) (omega arith) (c .before .before .number .ensures) (c .before .if4 .left))
+returns-5 c =
+    c .several .ensures
+    ∙ sym (list-nodes (begun (c .before .before .before .before .before)) (omega arith) (c .before .before .number .ensures) (c .before .if4 .left))
 
 pub list-spec : {M : Type 1} → statement M
 list-spec =

@@ -19,7 +19,9 @@ add-if1 : tie.Need-add-if1
 add-if1 c = search needs
 
 returns : tie.Need-returns
-returns c = rw (opaque-not (c .before .before .before .before .args .s .now) _ (ap (λ r. r .argument) (c .before .before .of .ensures)) (omega arith) (c .if1 .taken))
+returns c =
+    let a = c .before .before .before .before .args in
+    rw (opaque-not (a .s .now) _ (ap (λ r. r .argument) (c .before .before .of .ensures)) (omega arith) (c .if1 .taken))
 
 number-requires : tie.Need-number-requires
 number-requires c κs = (rw (ap (λ r. r .argument) (c .before .before .of .ensures)) (argument-width 0x08), omega arith)
@@ -33,7 +35,8 @@ add-t9 c = search needs
 returns-2 : tie.Need-returns-2
 returns-2 c =
     let a = c .before .before .before .before .before .args in
-    rw (opaque-is (a .s .now) _ (ap (λ r. r .argument) (c .before .before .before .of .ensures)) (c .number .result) (c .before .if1 .left) (c .number .ensures), add-one)
+    let width = ap (λ r. r .argument) (c .before .before .before .of .ensures) in
+    rw (opaque-is (a .s .now) _ width (c .number .result) (c .before .if1 .left) (c .number .ensures), add-one)
 
 pub opaque-spec : {M : Type 1} → statement M
 opaque-spec =
