@@ -1,7 +1,7 @@
 -- A number at a place of a list of bytes: as the definitions read and write it, and after a store. Each law goes by induction on
 -- the width.
 -- Assumes nothing.
-use Prim.Native.Nat.{ℕ, zero, suc, _+_, _*_, _^_, _/_, _%_, _<_, _≤_}
+use Prim.Native.Nat.{ℕ, zero, suc, _+_, _^_, _/_, _%_, _<_, _≤_}
 use mathlib.Core.Path.{_≡_, refl, ap, sym, _∙_}
 use mathlib.Core.List.{List, [], _∷_, _++_}
 use native.Mathlib.Decide.{decLt}
@@ -65,7 +65,8 @@ length-put w s i v = length-sets s i (bytes w v)
 
 byte-sets-other : (vs s : List ℕ) (i j : ℕ) → (i ≤ j → j < i + length vs → ⊥) → getD (sets s i vs) j 0 ≡ getD s j 0
 byte-sets-other [] s i j h = refl
-byte-sets-other (v ∷ vs) s i j h = byte-sets-other vs (set s i v) (suc i) j (λ a b. h (omega arith) (omega arith)) ∙ getD-set-other s i j v 0 (λ e. h (omega arith) (omega arith))
+byte-sets-other (v ∷ vs) s i j h =
+    byte-sets-other vs (set s i v) (suc i) j (λ a b. h (omega arith) (omega arith)) ∙ getD-set-other s i j v 0 (λ e. h (omega arith) (omega arith))
 
 -- a store leaves a number as it was whose bytes it does not meet
 pub number-put-other : (w x : ℕ) (s : List ℕ) (i v j : ℕ) → (i < j + x → j < i + w → ⊥) → numberAt x (putAt w s i v) j ≡ numberAt x s j
@@ -81,5 +82,6 @@ number-put (suc w) s i v h f =
     let z : i + 1 ≡ suc i = omega arith in
     let first : getD (sets l (suc i) (bytes w (v / 256))) i 0 ≡ v % 256 =
     byte-sets-other (bytes w (v / 256)) l (suc i) i (λ a b. omega arith) ∙ getD-set-same s i (v % 256) 0 (omega arith) in
-    let others : numberAt w (sets l (i + 1) (bytes w (v / 256))) (i + 1) ≡ v / 256 = number-put w l (i + 1) (v / 256) (omega (arith, length-set s i (v % 256))) (omega arith) in
+    let others : numberAt w (sets l (i + 1) (bytes w (v / 256))) (i + 1) ≡ v / 256 =
+    number-put w l (i + 1) (v / 256) (omega (arith, length-set s i (v % 256))) (omega arith) in
     rw z (omega (arith, rw z at others))

@@ -14,7 +14,7 @@ use Rattle.qptr.specs.Values.{sizeOf}
 use Rattle.qptr.specs.declared.MaxSize.{MaxSize}
 use Rattle.qptr.specs.declared.MaxSize.the-variants.{Fixed, Dynamic}
 use Rattle.records.specs.Words.{word, put}
-use Rattle.records.specs.Records.{sizeFrom, commandIn, countIn, sizeIn, argumentIn, offsetIn, Same, Written, Sized, Counted, Shifted, Typed, Swapped, tagIn, pastIn, Marked}
+use Rattle.records.specs.Records.{sizeFrom, commandIn, countIn, argumentIn, offsetIn, Same, Written, Sized, Counted, Shifted, Typed, Swapped, Marked}
 use Rattle.records.proofs.Numbers.{length-put, number-put, number-put-other}
 use Rattle.records.proofs.Usages.{holds-move}
 

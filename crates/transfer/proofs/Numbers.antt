@@ -25,7 +25,8 @@ pub size-fixed : (w : ℕ) (s : List ℕ) (i r : ℕ) → (getD s i 0 ≡ 0 → 
 unfolding sizeAt
 size-fixed w s i r some e = rw e (flagged (getD s i 0) (numberAt (w - 1) s (i + 1)) some)
 
-pub size-is : (w : ℕ) (s : List ℕ) (i : ℕ) (y : Size) (rest : List ℕ) → 1 ≤ w → ((n : ℕ) → y ≡ fixed n → n < 256 ^ (w - 1)) → drop i s ≡ writeSize w y ++ rest → sizeAt w s i ≡ y
+pub size-is : (w : ℕ) (s : List ℕ) (i : ℕ) (y : Size) (rest : List ℕ) → 1 ≤ w
+    → ((n : ℕ) → y ≡ fixed n → n < 256 ^ (w - 1)) → drop i s ≡ writeSize w y ++ rest → sizeAt w s i ≡ y
 unfolding sizeAt
 size-is zero s i y rest some fits d = absurd (omega arith)
 size-is (suc w) s i (fixed n) rest some fits d =

@@ -70,8 +70,10 @@ module _ {s : List ℕ} {at front : ℕ} {work : List ℕ} {q : ℕ} (R : OwnRea
       root = λ p u rest A.
           let P = parts A in
           let known : row ≡ commandAt (headOf u .command) = e ∙ ap commandAt (P .command) in
-          let size-is-read : sizeAt (row .size) s (at + front + 1) ≡ headOf u .size = rw known (size-is _ s _ _ _ (size-width u .some) (size-fits u (A .size)) (P .size)) in
-          let argument-is-read : numberAt (row .argument) s (at + front + 1 + row .size) ≡ headOf u .argument = rw known (number-is _ s _ _ rest (A .argument) (P .argument)) in
+          let size-is-read : sizeAt (row .size) s (at + front + 1) ≡ headOf u .size =
+          rw known (size-is _ s _ _ _ (size-width u .some) (size-fits u (A .size)) (P .size)) in
+          let argument-is-read : numberAt (row .argument) s (at + front + 1 + row .size) ≡ headOf u .argument =
+          rw known (number-is _ s _ _ rest (A .argument) (P .argument)) in
           record {
             command = W .here .command ∙ P .command;
             nodes = W .here .nodes;

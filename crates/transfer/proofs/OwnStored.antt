@@ -2,7 +2,7 @@
 -- Assumes nothing.
 use Prim.Native.Nat.{ℕ, _+_, _≤_}
 use mathlib.Core.Path.{_≡_, refl, _∙_}
-use mathlib.Core.List.{List, [], _∷_, _++_}
+use mathlib.Core.List.{List, [], _∷_}
 use native.Mathlib.Omega.{arith}
 use lib.ListN.{length, set}
 use lib.Seq.{sets}
@@ -20,11 +20,14 @@ use Rattle.transfer.proofs.Commands.{head-size}
 use Rattle.transfer.proofs.Stores.{put-more}
 use Rattle.transfer.proofs.Widths.{size-length, size-width}
 
-pub row-room : {row : Command} (c i : ℕ) {n : ℕ} → row ≡ commandAt c → SizeWidth (sizeWidth c) × (i + ownWidth c ≤ n) → SizeWidth (row .size) × Width (row .argument) × (i + 1 + row .size + row .argument ≤ n)
+pub row-room : {row : Command} (c i : ℕ) {n : ℕ} → row ≡ commandAt c → SizeWidth (sizeWidth c) × (i + ownWidth c ≤ n)
+    → SizeWidth (row .size) × Width (row .argument) × (i + 1 + row .size + row .argument ≤ n)
 row-room c i e h = rw e (h .0, argument-width c, omega (arith, h .1))
 
-pub head-stored : (out out₁ out₂ : List ℕ) (i c : ℕ) (z : Size) (a : ℕ) {row : Command} → row ≡ commandAt c → out₁ ≡ sets (set out i c) (i + 1) (writeSize (row .size) z)
-    → out₂ ≡ putAt (row .argument) out₁ (i + 1 + row .size) a → Put (writeHead (record { command = c; size = z; argument = a })) out i out₂ (i + 1 + row .size + row .argument)
+pub head-stored : (out out₁ out₂ : List ℕ) (i c : ℕ) (z : Size) (a : ℕ) {row : Command} → row ≡ commandAt c
+    → out₁ ≡ sets (set out i c) (i + 1) (writeSize (row .size) z)
+    → out₂ ≡ putAt (row .argument) out₁ (i + 1 + row .size) a
+    → Put (writeHead (record { command = c; size = z; argument = a })) out i out₂ (i + 1 + row .size + row .argument)
 unfolding putAt commandAt
 head-stored out out₁ out₂ i c z a {row} e e₁ e₂ =
     let v = row .size in
@@ -34,7 +37,8 @@ head-stored out out₁ out₂ i c z a {row} e e₁ e₂ =
     let C : Put (bytes w a) out₁ (i + 1 + v) out₂ (i + 1 + v + w) = record { stored = e₂; behind = omega (arith, bytes-length w a) } in
     rw (← e) (put-more (put-more A B) C)
 
-pub own-room : {s : List ℕ} {q front : ℕ} {out : List ℕ} {at c : ℕ} → OwnFitting s q front out at → c ≡ commandIn s q → SizeWidth (sizeWidth c) × (at + front + ownWidth c ≤ length out)
+pub own-room : {s : List ℕ} {q front : ℕ} {out : List ℕ} {at c : ℕ} → OwnFitting s q front out at → c ≡ commandIn s q
+    → SizeWidth (sizeWidth c) × (at + front + ownWidth c ≤ length out)
 own-room {s} {q} F e =
     let P = F .standing in
     let known = e ∙ root-of (P .usage) s q (P .offset) (P .stands) .1 .command in

@@ -1,6 +1,6 @@
 -- `conflicts` meets its contract: an Opaque is the same as another top where their first bytes and their types are.
 -- Assumes nothing.
-use mathlib.Core.Path.{ap, sym, _∙_}
+use mathlib.Core.Path.{ap}
 use native.Mathlib.Omega.{arith}
 use borrow.Author.Needs.{needs}
 use Rattle.definitions.specs.Command.{Command}
@@ -41,7 +41,7 @@ number-requires-2 c κs =
 returns-2 : tie.Need-returns-2
 returns-2 c =
     let a = c .before .before .before .before .before .before .before .before .before .before .args in
-    other-type (a .first .now) (a .second .now) (first-bytes (c .before .before .before .before .before .before .before .before)) (second-bytes (c .before .before .before .before .before .before .before .before)) (ap (λ (r : Command). r .argument) (c .before .before .before .before .of .ensures)) (λ same. c .if2 .taken (c .before .before .number .ensures ∙ same ∙ sym (c .before .number2 .ensures)))
+    other-type (a .first .now) (a .second .now) (first-bytes (c .before .before .before .before .before .before .before .before)) (second-bytes (c .before .before .before .before .before .before .before .before)) (ap (λ (r : Command). r .argument) (c .before .before .before .before .of .ensures)) (λ same. omega (arith, c .if2 .taken, c .before .before .number .ensures, c .before .number2 .ensures))
 
 returns-3 : tie.Need-returns-3
 returns-3 c =

@@ -1,6 +1,5 @@
 -- `records::number` meets its contract. A width is 4, 2 or 0, and of each the number is a sum of so many bytes.
 -- Assumes nothing.
-use Prim.Native.Nat.{_+_}
 use mathlib.Core.Path.{_≡_}
 use native.Mathlib.Omega.{arith}
 use borrow.Author.Needs.{needs}

@@ -10,7 +10,8 @@ use Rattle.records.specs.Words.{putAt, put}
 use Rattle.records.proofs.put32.Statement.{statement}
 use Rattle.records.proofs.put32.Tie as tie
 
-stores : (s : List ℕ) (i v : ℕ) → set (set (set (set s i (v % 256)) (i + 1) (v / 256 % 256)) (i + 2) (v / 256 / 256 % 256)) (i + 3) (v / 256 / 256 / 256 % 256) ≡ put s i v
+stores : (s : List ℕ) (i v : ℕ)
+    → set (set (set (set s i (v % 256)) (i + 1) (v / 256 % 256)) (i + 2) (v / 256 / 256 % 256)) (i + 3) (v / 256 / 256 / 256 % 256) ≡ put s i v
 unfolding putAt
 stores s i v =
     let e₁ : i + 1 ≡ suc i = omega arith in

@@ -2,7 +2,6 @@
 -- Assumes nothing.
 use Prim.Native.Nat.{_+_}
 use mathlib.Core.Path.{ap, _∙_}
-use native.Mathlib.Omega.{arith}
 use borrow.Author.Needs.{needs}
 use Rattle.definitions.specs.Command.{Command}
 use Rattle.transfer.specs.Nodes.{ownWidth}

@@ -1,7 +1,6 @@
 -- `transfer::put_size` meets its contract: either way it is a flag and a number that are stored.
 -- Assumes nothing.
 use mathlib.Core.Path.{_∙_}
-use native.Mathlib.Omega.{arith}
 use borrow.Author.Needs.{needs}
 use lib.ListN.{length-set}
 use Rattle.transfer.proofs.Stores.{store-dynamic, store-fixed}

@@ -1,6 +1,5 @@
 -- `transfer::size` meets its contract: the flag tells a dynamic size from a fixed one, whose number stands behind it.
 -- Assumes nothing.
-use native.Mathlib.Omega.{arith}
 use borrow.Author.Needs.{needs}
 use Rattle.transfer.proofs.Numbers.{size-dynamic, size-fixed}
 use Rattle.transfer.proofs.size.Statement.{statement}
