@@ -124,6 +124,21 @@ impl Command {
             }
         }
     }
+
+    // The same. A node's command has an arm of its own, where its row is a constant: with an index that is not known, the whole table is
+    // laid out first, each time.
+    pub fn of_node(command: u8) -> Command
+        ensures { λ r. ⌜ rowOf r ≡ commandAt command ⌝ }
+    {
+        match command {
+            0x00 => Command::of(0x00),
+            0x01 => Command::of(0x01),
+            0x02 => Command::of(0x02),
+            0x03 => Command::of(0x03),
+            0x04 => Command::of(0x04),
+            _ => Command::of(command),
+        }
+    }
 }
 
 // A memory node without its children: the source's `QPtrMemUsage`, whose kind is its command and its argument.

@@ -151,17 +151,17 @@ fn outline(s: &[u8], at: usize) -> HeaderAt
     }
 }
 
-// The own part of the node at `at`: its command, its size and its argument.
-pub fn header(s: &[u8], at: usize) -> HeaderAt
-    requires { ⌜ at ≤ length (now s) ⌝ }
+// The own part at `at`, of its outline: the size is looked at too, and the stride. With `outline` it is compiled into each walk.
+fn sized(s: &[u8], at: usize, outline: HeaderAt) -> HeaderAt
+    requires { ⌜ Outlines (now s) at outline ⌝ }
     ensures { λ r. ⌜ Shows (now (s .entry)) at r ⌝ }
 {
-    let HeaderAt::Header { node, end } = outline(s, at) else {
+    let HeaderAt::Header { node, end } = outline else {
         return HeaderAt::Broken;
     };
     let command = node.command;
     let argument = node.argument;
-    let SizeAt::Size(size) = size(s, at + 1, Command::of(command).size as usize) else {
+    let SizeAt::Size(size) = size(s, at + 1, Command::of_node(command).size as usize) else {
         return HeaderAt::Broken;
     };
     if !known(command, argument) {
@@ -171,6 +171,14 @@ pub fn header(s: &[u8], at: usize) -> HeaderAt
         node: Node::of(command, size, argument),
         end,
     }
+}
+
+// The own part of the node at `at`: its command, its size and its argument.
+pub fn header(s: &[u8], at: usize) -> HeaderAt
+    requires { ⌜ at ≤ length (now s) ⌝ }
+    ensures { λ r. ⌜ Shows (now (s .entry)) at r ⌝ }
+{
+    sized(s, at, outline(s, at))
 }
 
 // The entries that a node opens.
@@ -305,7 +313,7 @@ pub fn node(s: &[u8], from: usize) -> Span
     let mut nodes: usize = 0;
     let mut types: u64 = 0;
     loop {
-        let HeaderAt::Header { node, end } = header(s, at) else {
+        let HeaderAt::Header { node, end } = sized(s, at, outline(s, at)) else {
             return Span::Broken;
         };
         if !ordered(s, node, end) {

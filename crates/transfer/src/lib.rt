@@ -55,7 +55,7 @@ fn put_head(out: &mut [u8], i: usize, c: u8, z: MaxSize, a: u32) -> usize
     requires { ⌜ SizeWidth (sizeWidth c) × (i + ownWidth c ≤ length (now out)) ⌝ }
     ensures { λ r. ⌜ Put (writeHead (record { command = c; size = sizeOf z; argument = a })) (now (out .entry)) i (now (out .exit)) r ⌝ }
 {
-    let row = Command::of(c);
+    let row = Command::of_node(c);
     let v = row.size as usize;
     let w = row.argument as usize;
     out[i] = c;
@@ -80,7 +80,7 @@ fn own_width(s: &[u8], q: usize) -> usize
     requires { ⌜ (q * 32 + 32 ≤ length (now s)) × (commandIn (now s) q < 256) ⌝ }
     ensures { λ r. ⌜ r ≡ ownWidth (commandIn (now (s .entry)) q) ⌝ }
 {
-    let row = Command::of(command(s, q) as u8);
+    let row = Command::of_node(command(s, q) as u8);
     1 + row.size as usize + row.argument as usize
 }
 
@@ -204,7 +204,7 @@ fn load_own(s: &[u8], at: usize, front: usize, work: &mut [u8], q: usize) -> usi
 {
     let h = at + front;
     let c = s[h];
-    let row = Command::of(c);
+    let row = Command::of_node(c);
     let v = row.size as usize;
     let w = row.argument as usize;
     let end = h + 1 + v + w;

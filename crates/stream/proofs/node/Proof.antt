@@ -20,8 +20,11 @@ abbrev μ-loop : tie.MeasureT-loop
 loop-holds : tie.Need-loop-holds Inv-loop μ-loop
 loop-holds c = search (count-start, needs)
 
-header-requires : tie.Need-header-requires Inv-loop μ-loop
-header-requires c κs = search needs
+outline-requires : tie.Need-outline-requires Inv-loop μ-loop
+outline-requires c κs = search needs
+
+sized-requires : tie.Need-sized-requires Inv-loop μ-loop
+sized-requires c κs = search needs
 
 enum-known-node : tie.Need-enum-known-node Inv-loop μ-loop
 enum-known-node c = search needs
@@ -31,21 +34,21 @@ enum-told c = search needs
 
 returns : tie.Need-returns Inv-loop μ-loop
 returns c =
-    let a = c .before .before .before .before .before .args in
-    count-stop (a .s .now) (a .from) (c .before .before .before .loop .inv) (rw (c .enum-told .given .1) at (c .before .before .header .ensures))
+    let a = c .before .before .before .before .before .before .args in
+    count-stop (a .s .now) (a .from) (c .before .before .before .before .loop .inv) (rw (c .enum-told .given .1) at (c .before .before .sized .ensures))
 
 part : (c : tie.After-known-told Inv-loop μ-loop)
     → (let head = c .before .node .given .0 in
-    PartAt (c .before .before .before .before .before .before .args .s .now) (c .before .before .before .before .loop .at) (head .0) (head .1 .0))
-part c = rw (c .before .node .given .1) at (c .before .before .before .header .ensures)
+    PartAt (c .before .before .before .before .before .before .before .args .s .now) (c .before .before .before .before .before .loop .at) (head .0) (head .1 .0))
+part c = rw (c .before .node .given .1) at (c .before .before .before .sized .ensures)
 
 ordered-requires : tie.Need-ordered-requires Inv-loop μ-loop
 ordered-requires c κs = part c .within
 
 returns-2 : tie.Need-returns-2 Inv-loop μ-loop
 returns-2 c =
-    let a = c .before .before .before .before .before .before .before .before .args in
-    count-disorder (a .s .now) (a .from) (c .before .before .before .before .before .before .loop .inv) (part (c .before .before))
+    let a = c .before .before .before .before .before .before .before .before .before .args in
+    count-disorder (a .s .now) (a .from) (c .before .before .before .before .before .before .before .loop .inv) (part (c .before .before))
     (rw (not-true (c .before .ordered .result) (c .if1 .taken)) at (c .before .ordered .ensures))
 
 add-nodes : tie.Need-add-nodes Inv-loop μ-loop
@@ -61,13 +64,13 @@ past-requires : tie.Need-past-requires Inv-loop μ-loop
 past-requires c κs = let here = part (c .before .before .before .before) in (omega arith, omega arith)
 
 turn : (c : tie.After-past Inv-loop μ-loop)
-    → (let a = c .before .before .before .before .before .before .before .before .before .before .before .args in
-    Counts-on (a .s .now) (a .from) (c .before .before .before .before .before .before .node .given .0 .1 .0) (c .before .before .before .before .before .before .before .before .before .loop .nodes + 1)
+    → (let a = c .before .before .before .before .before .before .before .before .before .before .before .before .args in
+    Counts-on (a .s .now) (a .from) (c .before .before .before .before .before .before .node .given .0 .1 .0) (c .before .before .before .before .before .before .before .before .before .before .loop .nodes + 1)
     (c .before .max .result) (c .past .result))
 turn c =
-    let a = c .before .before .before .before .before .before .before .before .before .before .before .args in
+    let a = c .before .before .before .before .before .before .before .before .before .before .before .before .args in
     let bound = c .before .before .bound .ensures in
-    count-turn (a .s .now) (a .from) (c .before .before .before .before .before .before .before .before .before .loop .inv) (part (c .before .before .before .before .before))
+    count-turn (a .s .now) (a .from) (c .before .before .before .before .before .before .before .before .before .before .loop .inv) (part (c .before .before .before .before .before))
     (rw (not-false (c .before .before .before .before .ordered .result) (c .before .before .before .if1 .left)) at (c .before .before .before .before .ordered .ensures))
     (c .before .max .ensures ∙ ap (max _) (bound .0))
     (omega arith)
@@ -105,7 +108,8 @@ node-spec =
     Inv-loop
     μ-loop
     loop-holds
-    header-requires
+    outline-requires
+    sized-requires
     enum-known-node
     enum-told
     returns

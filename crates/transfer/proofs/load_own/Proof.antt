@@ -13,8 +13,8 @@ add-h c = omega (arith, head-inside (c .before .before .pre))
 shared-slice-read-c : tie.Need-shared-slice-read-c
 shared-slice-read-c c = omega (arith, head-inside (c .before .before .before .pre))
 
-of-requires : tie.Need-of-requires
-of-requires c κs = search needs
+of-node-requires : tie.Need-of-node-requires
+of-node-requires c κs = search needs
 
 cast-v : tie.Need-cast-v
 cast-v c = search needs
@@ -23,13 +23,13 @@ cast-w : tie.Need-cast-w
 cast-w c = search needs
 
 add-end : tie.Need-add-end
-add-end c = omega (arith, own-inside (c .before .before .before .before .before .before .pre) (c .before .before .of .ensures) .2)
+add-end c = omega (arith, own-inside (c .before .before .before .before .before .before .pre) (c .before .before .of-node .ensures) .2)
 
 add-end-2 : tie.Need-add-end-2
-add-end-2 c = omega (arith, own-inside (c .before .before .before .before .before .before .pre) (c .before .before .of .ensures) .2)
+add-end-2 c = omega (arith, own-inside (c .before .before .before .before .before .before .pre) (c .before .before .of-node .ensures) .2)
 
 add-end-3 : tie.Need-add-end-3
-add-end-3 c = omega (arith, own-inside (c .before .before .before .before .before .before .pre) (c .before .before .of .ensures) .2)
+add-end-3 c = omega (arith, own-inside (c .before .before .before .before .before .before .pre) (c .before .before .of-node .ensures) .2)
 
 number-requires : tie.Need-number-requires
 number-requires c κs = (c .before .before .before .before .before .before .pre .width, omega (arith, head-inside (c .before .before .before .before .before .before .pre)))
@@ -38,16 +38,16 @@ add-size : tie.Need-add-size
 add-size c = omega (arith, head-inside (c .before .before .before .before .before .before .before .pre))
 
 size-requires : tie.Need-size-requires
-size-requires c κs = let inside = own-inside (c .before .before .before .before .before .before .before .pre) (c .before .before .before .of .ensures) in (inside .0, omega (arith, inside .2))
+size-requires c κs = let inside = own-inside (c .before .before .before .before .before .before .before .pre) (c .before .before .before .of-node .ensures) in (inside .0, omega (arith, inside .2))
 
 add-number : tie.Need-add-number
-add-number c = omega (arith, own-inside (c .before .before .before .before .before .before .before .before .pre) (c .before .before .before .before .of .ensures) .2)
+add-number c = omega (arith, own-inside (c .before .before .before .before .before .before .before .before .pre) (c .before .before .before .before .of-node .ensures) .2)
 
 add-number-2 : tie.Need-add-number-2
-add-number-2 c = omega (arith, own-inside (c .before .before .before .before .before .before .before .before .pre) (c .before .before .before .before .of .ensures) .2)
+add-number-2 c = omega (arith, own-inside (c .before .before .before .before .before .before .before .before .pre) (c .before .before .before .before .of-node .ensures) .2)
 
 number-requires-2 : tie.Need-number-requires-2
-number-requires-2 c κs = let inside = own-inside (c .before .before .before .before .before .before .before .before .pre) (c .before .before .before .before .of .ensures) in (inside .1, inside .2)
+number-requires-2 c κs = let inside = own-inside (c .before .before .before .before .before .before .before .before .pre) (c .before .before .before .before .of-node .ensures) in (inside .1, inside .2)
 
 cast-put-record : tie.Need-cast-put-record
 cast-put-record c =
@@ -62,7 +62,7 @@ same-length c = search needs
 
 returns : tie.Need-returns
 returns c =
-    own-loaded (c .before .before .before .before .before .before .before .before .before .before .before .before .before .pre) (c .before .before .before .before .before .before .before .before .before .of .ensures)
+    own-loaded (c .before .before .before .before .before .before .before .before .before .before .before .before .before .pre) (c .before .before .before .before .before .before .before .before .before .of-node .ensures)
     (c .before .before .before .before .before .before .number .ensures) (c .before .before .before .before .before .size .ensures) (c .before .before .before .before .number2 .ensures) (c .before .before .put-record .ensures)
 
 pub load-own-spec : {M : Type 1} → statement M
@@ -71,7 +71,7 @@ load-own-spec =
     (tie.spec
     add-h
     shared-slice-read-c
-    of-requires
+    of-node-requires
     cast-v
     cast-w
     add-end

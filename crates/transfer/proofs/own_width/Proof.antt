@@ -11,11 +11,11 @@ use Rattle.transfer.proofs.own_width.Tie as tie
 command-requires : tie.Need-command-requires
 command-requires c κs = search needs
 
-cast-of : tie.Need-cast-of
-cast-of c = search needs
+cast-of-node : tie.Need-cast-of-node
+cast-of-node c = search needs
 
-of-requires : tie.Need-of-requires
-of-requires c κs = search needs
+of-node-requires : tie.Need-of-node-requires
+of-node-requires c κs = search needs
 
 cast-result : tie.Need-cast-result
 cast-result c = search needs
@@ -30,7 +30,7 @@ add-result-2 : tie.Need-add-result-2
 add-result-2 c = search needs
 
 returns : tie.Need-returns
-returns c = ap (λ (r : Command). 1 + r .size + r .argument) (c .before .before .of .ensures) ∙ ap ownWidth (c .before .before .before .command .ensures)
+returns c = ap (λ (r : Command). 1 + r .size + r .argument) (c .before .before .of-node .ensures) ∙ ap ownWidth (c .before .before .before .command .ensures)
 
 pub own-width-spec : {M : Type 1} → statement M
-own-width-spec = tie.close (tie.spec command-requires cast-of of-requires cast-result add-result cast-result-2 add-result-2 returns)
+own-width-spec = tie.close (tie.spec command-requires cast-of-node of-node-requires cast-result add-result cast-result-2 add-result-2 returns)

@@ -8,8 +8,8 @@ use Rattle.transfer.proofs.OwnStored.{row-room, head-stored}
 use Rattle.transfer.proofs.put_head.Statement.{statement}
 use Rattle.transfer.proofs.put_head.Tie as tie
 
-of-requires : tie.Need-of-requires
-of-requires c κs = search needs
+of-node-requires : tie.Need-of-node-requires
+of-node-requires c κs = search needs
 
 cast-v : tie.Need-cast-v
 cast-v c = search needs
@@ -24,7 +24,7 @@ add-put-size : tie.Need-add-put-size
 add-put-size c = search needs
 
 put-size-requires : tie.Need-put-size-requires
-put-size-requires c κs = let room = row-room _ _ (c .before .before .before .of .ensures) (c .before .before .before .before .before .pre) in (room .0, simp length-set (omega (arith, room .2)))
+put-size-requires c κs = let room = row-room _ _ (c .before .before .before .of-node .ensures) (c .before .before .before .before .before .pre) in (room .0, simp length-set (omega (arith, room .2)))
 
 add-put-number : tie.Need-add-put-number
 add-put-number c = search needs
@@ -34,7 +34,7 @@ add-put-number-2 c = search needs
 
 put-number-requires : tie.Need-put-number-requires
 put-number-requires c κs =
-    let room = row-room _ _ (c .before .before .before .before .before .before .before .of .ensures) (c .before .before .before .before .before .before .before .before .before .pre) in
+    let room = row-room _ _ (c .before .before .before .before .before .before .before .of-node .ensures) (c .before .before .before .before .before .before .before .before .before .pre) in
     (room .1, omega (arith, room .2, simp length-set at (c .before .before .before .put-size .kept .0)))
 
 add-result : tie.Need-add-result
@@ -50,13 +50,13 @@ same-length : tie.Need-same-length
 same-length c = c .before .before .put-number .kept .0 ∙ c .before .before .before .before .before .before .put-size .kept .0 ∙ simp length-set
 
 returns : tie.Need-returns
-returns c = head-stored _ _ _ _ _ _ _ (c .before .before .before .before .before .before .before .before .before .before .of .ensures) (c .before .before .before .before .before .before .put-size .ensures) (c .before .before .put-number .ensures)
+returns c = head-stored _ _ _ _ _ _ _ (c .before .before .before .before .before .before .before .before .before .before .of-node .ensures) (c .before .before .before .before .before .before .put-size .ensures) (c .before .before .put-number .ensures)
 
 pub put-head-spec : {M : Type 1} → statement M
 put-head-spec =
     tie.close
     (tie.spec
-    of-requires
+    of-node-requires
     cast-v
     cast-w
     slice-write-out
