@@ -7,14 +7,18 @@ cd "$(dirname "$0")"
 
 # What a message says where the proof does not fit the code: a name or a field is missing, or what is known at one place is looked for
 # at another (`Lts` has a record for each place).
-unfit='can be named from here|has no field|too many arguments|too few arguments|was not admitted'
+unfit='can be named from here|has no field|too many arguments|too few arguments'
 unfit+='|where one has `[^` ]*Lts\.(Start|After|Else|Then)[A-Za-z0-9-]*`'
 
-# The first error of a log, with the lines that belong to it; of a function that has no proof of its own, the fact that is not proved.
+# The first error of a log, with the lines that belong to it; of a function that has no proof of its own, the fact that is not proved. A
+# message that something else was not admitted follows from an error that stands elsewhere, and is passed over.
 first_error() {
   awk '
-    begun && !/^ / { exit }
-    begun || /: error/ || /^note: .* it is not proved that/ { begun = 1; print }
+    function tell() { if (message != "" && message !~ /was not admitted/) { print message; told = 1; exit } message = "" }
+    /: error/ || /^note: .* it is not proved that/ { tell(); message = $0; next }
+    /^ / && message != "" { message = message "\n" $0; next }
+    { tell() }
+    END { if (!told) tell() }
   ' "$1"
 }
 
