@@ -21,7 +21,7 @@ fi
 rt fmt --check
 
 # From nothing: every proof, every must-fail edit, every program. All that follows uses the library that is proved here. `rt` starts so
-# many checks at a time and waits for the slowest of them; on two cores three at a time took least (81, 76 and 83 s for two, three and four).
+# many checks at a time and waits for the slowest of them; on two cores three took least (31 edits, one run each: 81, 76 and 83 s for two, three and four).
 said=$(mktemp)
 trap 'rm -f "$said"' EXIT
 RT_JOBS=${RT_JOBS:-3} rt ci | tee "$said"
