@@ -5,6 +5,8 @@ pub mod bench;
 pub mod compare;
 pub mod generate;
 #[cfg(feature = "library")]
+pub mod growth;
+#[cfg(feature = "library")]
 pub mod library;
 pub mod notation;
 #[cfg(feature = "library")]

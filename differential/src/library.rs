@@ -15,7 +15,7 @@ impl Side for Library {
     }
 
     fn answer(&self, call: &Call) -> Answer {
-        let mut lent = Lent::new(call);
+        let mut lent = Lent::new(call, 0);
         let told = ask(call, &mut lent);
         let Lent { output, report, .. } = lent;
         Answer {
@@ -30,19 +30,19 @@ impl Side for Library {
     }
 }
 
-/// How long so many askings of a call take, all with the same buffers.
-pub fn time(call: &Call, times: u32) -> Duration {
-    let mut lent = Lent::new(call);
-    let start = Instant::now();
+/// How long so many askings of a call take, all with the same buffers; the work area starts so far inside of its own.
+pub fn time(call: &Call, times: u32, start: usize) -> Duration {
+    let mut lent = Lent::new(call, start);
+    let begun = Instant::now();
     for _ in 0..times {
         black_box(ask(call, &mut lent));
     }
-    start.elapsed()
+    begun.elapsed()
 }
 
-fn ask(call: &Call, Lent { work, output, report }: &mut Lent) -> calls::Answer {
+fn ask(call: &Call, Lent { work, start, output, report }: &mut Lent) -> calls::Answer {
     let Call { table, ty, offset, first, second, .. } = call;
-    let setting = Setting { table, work };
+    let setting = Setting { table, work: &mut work[*start..] };
     let buffers = Buffers { output, report };
     match call.kind {
         CallKind::Receiver => calls::Answer {
@@ -63,15 +63,18 @@ fn ask(call: &Call, Lent { work, output, report }: &mut Lent) -> calls::Answer {
 /// What is lent to a call to be written.
 struct Lent {
     work: Vec<u8>,
+    /// Where in `work` the work area starts.
+    start: usize,
     output: Vec<u8>,
     report: Vec<u8>,
 }
 
 impl Lent {
-    fn new(call: &Call) -> Lent {
+    fn new(call: &Call, start: usize) -> Lent {
         Lent {
             // What a call leaves in its work area is free, and what it finds there is arbitrary.
-            work: vec![0xee; call.work],
+            work: vec![0xee; start + call.work],
+            start,
             output: call.output.bytes(),
             report: call.report.bytes(),
         }

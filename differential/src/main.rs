@@ -1,5 +1,8 @@
 //! The commands. README.md lists them.
 
+#[cfg(feature = "library")]
+mod port;
+
 use differential::compare::{Category, compare, compare_one};
 use differential::generate::Source;
 use differential::power::{generated, power};
@@ -12,7 +15,7 @@ use differential::rows::{Row, bench, directed, limits, printed_example};
 use differential::side::{CallKind, Side};
 use differential::theorems::{Theorems, small_calls};
 #[cfg(feature = "library")]
-use differential::{bench as port, library::Library, part::Part, plot, stack};
+use differential::{library::Library, part::Part};
 use std::path::Path;
 use std::process::ExitCode;
 use std::time::{Duration, Instant};
@@ -34,7 +37,9 @@ theorems DIR                     write recorded and generated calls as theorems 
   --seed 3
 power                            each deliberate fault must be noticed
 bench                            how long the port takes, beside the reference (needs the library)
-plot PATH                        how cost grows with nodes, as a picture (needs the library)
+deep                             how long it takes to refuse streams that are far too deep (needs the library)
+growth                           how instructions grow with nodes (needs the library and valgrind)
+plot PATH                        how time grows with nodes, as a picture (needs the library)
 questions                        the layout test's questions, ours and the reference's (needs the library)
 slow                             how long it takes where no memory helps (needs the library)
 plot-questions PATH              how they grow with the input, as a picture
@@ -48,9 +53,14 @@ const RECORDED: &str = concat!(env!("CARGO_MANIFEST_DIR"), "/../crates/replay/da
 /// Streams may be nested deeper than a usual stack allows, and all readers here recurse.
 const STACK: usize = 1 << 30;
 
+/// What times the reference stays in the main thread and starts no other: the allocator locks where there are more, and is slower.
+const IN_MAIN_THREAD: [&str; 2] = ["bench", "plot"];
+
 fn main() -> ExitCode {
-    let run = thread::Builder::new().stack_size(STACK).spawn(run).expect("a thread can be started");
-    match run.join() {
+    let arguments: Vec<String> = env::args().skip(1).collect();
+    let timed = arguments.first().is_some_and(|command| IN_MAIN_THREAD.contains(&&**command));
+    let ended = if timed { Ok(run(&arguments)) } else { on_large_stack(arguments) };
+    match ended {
         Ok(Ok(line)) => {
             println!("{line}");
             ExitCode::SUCCESS
@@ -63,11 +73,15 @@ fn main() -> ExitCode {
     }
 }
 
+fn on_large_stack(arguments: Vec<String>) -> thread::Result<Ended> {
+    let large = thread::Builder::new().stack_size(STACK);
+    large.spawn(move || run(&arguments)).expect("a thread can be started").join()
+}
+
 /// What a command ends with: a plain line, or what is wrong.
 type Ended = Result<String, String>;
 
-fn run() -> Ended {
-    let arguments: Vec<String> = env::args().skip(1).collect();
+fn run(arguments: &[String]) -> Ended {
     let words: Vec<&str> = arguments.iter().map(String::as_str).collect();
     match words.as_slice() {
         ["rows"] => rows(),
@@ -77,24 +91,17 @@ fn run() -> Ended {
         ["replay", path, side, options @ ..] => replay(path, side, &Options::read(options)?),
         ["theorems", folder, options @ ..] => theorems(folder, options),
         ["power"] => check_power(&derived()?),
-        #[cfg(feature = "library")]
-        ["bench"] => bench_port(),
-        #[cfg(feature = "library")]
-        ["stack"] => stack_table(),
-        #[cfg(feature = "library")]
-        ["plot", path] => plot_growth(path),
-        #[cfg(feature = "library")]
-        ["stack-of", name, kib] => stack::run(name, kib),
-        #[cfg(feature = "library")]
-        ["questions"] => questions_table(),
-        #[cfg(feature = "library")]
-        ["slow"] => slow_table(),
-        #[cfg(not(feature = "library"))]
-        ["bench" | "stack" | "plot" | "questions" | "slow", ..] => Err(NOT_LINKED.into()),
         ["worst", options @ ..] => search_worst(options),
         ["plot-questions", path] => plot_questions(path),
         ["ci"] => ci(RECORDED),
         ["ci", path] => ci(path),
+        #[cfg(feature = "library")]
+        of_port => port::run(of_port).unwrap_or_else(|| Err(USAGE.into())),
+        #[cfg(not(feature = "library"))]
+        ["bench" | "deep" | "growth" | "stack" | "plot" | "questions" | "slow", ..] => {
+            Err(NOT_LINKED.into())
+        }
+        #[cfg(not(feature = "library"))]
         _ => Err(USAGE.into()),
     }
 }
@@ -102,38 +109,6 @@ fn run() -> Ended {
 #[cfg(not(feature = "library"))]
 const NOT_LINKED: &str =
     "the port is not linked: README.md, \"The port\", says how to build with it";
-
-#[cfg(feature = "library")]
-fn bench_port() -> Ended {
-    println!("{}\n\n{}", port::ratios(), port::deep());
-    Ok("bench: medians of 21 runs; deep streams once".into())
-}
-
-#[cfg(feature = "library")]
-fn stack_table() -> Ended {
-    println!("{}", stack::table()?);
-    Ok("stack: the smallest that suffices, in steps of 8 KiB".into())
-}
-
-#[cfg(feature = "library")]
-fn plot_growth(path: &str) -> Ended {
-    let (picture, table) = plot::growth();
-    fs::write(path, picture).map_err(|error| format!("{path}: {error}"))?;
-    println!("{table}");
-    Ok(format!("plot: {path}"))
-}
-
-#[cfg(feature = "library")]
-fn questions_table() -> Ended {
-    println!("{}", differential::questions::figures::table()?);
-    Ok("questions: none of the four shapes takes more than it may".into())
-}
-
-#[cfg(feature = "library")]
-fn slow_table() -> Ended {
-    println!("{}", differential::questions::figures::slow());
-    Ok("slow: one call each".into())
-}
 
 fn plot_questions(path: &str) -> Ended {
     fs::write(path, picture::picture()).map_err(|error| format!("{path}: {error}"))?;

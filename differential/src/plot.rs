@@ -1,23 +1,13 @@
 //! How cost grows with nodes: the call merge beside the reference, from 8 to 512 nodes, as a picture with two logarithmic axes.
 
-use crate::bench::{Times, at_offsets, compared, nested_maps};
-use crate::side::CallKind;
-use crate::usage::Usage;
+use crate::bench::sized::named;
+use crate::bench::{Times, compared};
 use std::fmt::Write;
 
 /// The nodes of both usages together.
 const NODES: [usize; 7] = [8, 16, 32, 64, 128, 256, 512];
 
-/// A shape, and one of two usages of that shape that have so many nodes together.
-type Shape = (&'static str, fn(usize, u32) -> Usage);
-
-const SHAPES: [Shape; 3] = [
-    ("flat maps, interleaved", |nodes, which| {
-        at_offsets((1..nodes as u32).map(|i| i * 8 + which * 4))
-    }),
-    ("flat maps, same offsets", |nodes, _| at_offsets((1..nodes as u32).map(|i| i * 4))),
-    ("chains of maps", |nodes, _| nested_maps(nodes)),
-];
+const SHAPES: [&str; 3] = ["flat maps, interleaved", "flat maps, same offsets", "chains of maps"];
 
 const COLOURS: [&str; 3] = ["#1b6ca8", "#b5482a", "#3a7d44"];
 
@@ -36,10 +26,11 @@ pub fn growth() -> (String, String) {
     let mut svg = frame();
     let mut table =
         "| merged | nodes | ours | reference | ratio |\n|---|---|---|---|---|".to_owned();
-    for ((name, shape), colour) in SHAPES.into_iter().zip(COLOURS) {
+    for (name, colour) in SHAPES.into_iter().zip(COLOURS) {
+        let shape = named(name).expect("a shape of the bench");
         let figures = NODES.map(|nodes| {
-            let [first, second] = [0, 1].map(|which| shape(nodes / 2, which));
-            let (_, Times { ours, reference, .. }) = compared(CallKind::Merge, &[first, second]);
+            let (_, usages) = (shape.given)(nodes);
+            let (_, Times { ours, reference, .. }) = compared(shape.kind, &usages);
             let ratio = ours / reference;
             let _ = write!(
                 table,
@@ -106,7 +97,7 @@ fn frame() -> String {
         "<text x=\"{middle:.1}\" y=\"{:.1}\" text-anchor=\"middle\">nodes of both usages</text>",
         HEIGHT - 12.0
     );
-    for (i, ((name, _), colour)) in SHAPES.into_iter().zip(COLOURS).enumerate() {
+    for (i, (name, colour)) in SHAPES.into_iter().zip(COLOURS).enumerate() {
         let y = TOP + 20.0 + 20.0 * i as f64;
         let _ = writeln!(
             svg,

@@ -1,42 +1,72 @@
 //! How much stack the deepest calls need: each is made in a process of its own, on a thread with a stack of a given size, and
 //! the size is halved towards the smallest that suffices.
 
-use crate::bench::nested_maps;
+use crate::bench::{leaf, merging_call, nested_arrays, nested_maps, plain_table, sound};
 use crate::library::Library;
 use crate::notation;
-use crate::reading::calls::WORK_AREA;
 use crate::reading::streams::write_memory;
 use crate::reading::tables::write_table;
-use crate::side::{Buffer, Call, CallKind, Side};
-use crate::usage::Usage;
+use crate::side::{Call, CallKind, Side};
+use crate::usage::{Table, Usage};
 use std::process::{Command, Stdio};
 use std::{env, thread};
 
-/// The largest stack that is tried, and the step, in KiB.
-const MOST: usize = 1024;
+/// The largest stack that is tried, which a thread of Rust has by default, and the step, in KiB.
+const MOST: usize = 2048;
 const STEP: usize = 8;
 
-/// What each is called on the command line, and in words.
-const SHAPES: [(&str, &str); 7] = [
-    ("chain", "merge: a chain of 510 maps over a leaf, and a leaf"),
-    ("chains", "merge: two chains of 255 maps"),
-    ("arrays", "merge: two nests of 255 arrays"),
-    ("types", "merge: a leaf whose type is nested 1,023 deep, and a chain of 510 maps"),
-    (
-        "arrays-types",
-        "merge: two nests of 254 arrays, one over such a leaf, the other over two maps and a leaf",
-    ),
-    ("fold", "fold: a chain of 255 maps and 253 leaves"),
-    ("supports", "supports: a type nested 1,023 deep, a chain of 511 maps"),
+/// A call: its name on the command line, and in words.
+struct Deep {
+    name: &'static str,
+    words: &'static str,
+    call: fn() -> Call,
+}
+
+/// The deepest that is known is `arrays-types`.
+const CALLS: [Deep; 7] = [
+    Deep {
+        name: "chain",
+        words: "merge: a chain of 510 maps over a leaf, and a leaf",
+        call: || merge(&plain_table(), [nested_maps(511), leaf()]),
+    },
+    Deep {
+        name: "chains",
+        words: "merge: two chains of 255 maps",
+        call: || merge(&plain_table(), [nested_maps(256), nested_maps(256)]),
+    },
+    Deep {
+        name: "arrays",
+        words: "merge: two nests of 255 arrays",
+        call: || merge(&plain_table(), [nested_arrays(256), nested_arrays(256)]),
+    },
+    Deep {
+        name: "types",
+        words: "merge: a leaf whose type is nested 1,023 deep, and a chain of 510 maps",
+        call: || merge(&nested_types(), [notation::usage("D4,1023"), nested_maps(511)]),
+    },
+    Deep {
+        name: "arrays-types",
+        words: "merge: two nests of 254 arrays, one over such a leaf, the other over two maps and a leaf",
+        call: || merge(&nested_types(), ["D4,1023", "O4[0:O4[0:D4,0]]"].map(inside_arrays)),
+    },
+    Deep { name: "fold", words: "fold: a chain of 255 maps and 253 leaves", call: fold },
+    Deep {
+        name: "supports",
+        words: "supports: a type nested 1,023 deep, a chain of 511 maps",
+        call: supports,
+    },
 ];
 
-/// The table of the smallest stacks, in Markdown.
-pub fn table() -> Result<String, String> {
+/// The table of the smallest stacks, in Markdown, and the largest of them in KiB.
+pub fn table() -> Result<(String, usize), String> {
     let mut lines = vec!["| call | stack, KiB |".to_owned(), "|---|---|".to_owned()];
-    for (name, words) in SHAPES {
-        lines.push(format!("| {words} | {} |", smallest(name)?));
+    let mut most = 0;
+    for Deep { name, words, .. } in CALLS {
+        let kib = smallest(name)?;
+        lines.push(format!("| {words} | {kib} |"));
+        most = most.max(kib);
     }
-    Ok(lines.join("\n"))
+    Ok((lines.join("\n"), most))
 }
 
 /// The smallest size that suffices, in steps.
@@ -66,7 +96,8 @@ fn runs(name: &str, kib: usize) -> Result<bool, String> {
 /// Makes one of the calls on a thread with so large a stack. If that is too small, the process ends here by a signal.
 pub fn run(name: &str, kib: &str) -> Result<String, String> {
     let kib: usize = kib.parse().map_err(|_| format!("{kib} is no number"))?;
-    let call = call(name).ok_or_else(|| format!("{name} is no shape"))?;
+    let deep = CALLS.iter().find(|deep| deep.name == name);
+    let call = (deep.ok_or_else(|| format!("no call is named {name}"))?.call)();
     let run = thread::Builder::new().stack_size(kib << 10).spawn(move || Library.answer(&call));
     let answer = run.map_err(|error| error.to_string())?.join();
     let answer = answer.map_err(|_| "the call panicked".to_owned())?;
@@ -75,50 +106,28 @@ pub fn run(name: &str, kib: &str) -> Result<String, String> {
         .ok_or_else(|| format!("{name} is refused with {}", answer.number))
 }
 
-fn call(name: &str) -> Option<Call> {
-    let leaf = || nested_maps(1);
-    let pair = |first: &Usage, second: &Usage| {
-        (CallKind::Merge, write_memory(first), write_memory(second))
-    };
-    let chained = |records: usize| {
-        let wrapped: String = (1..records).map(|i| format!("; fields 4 {{0:{}}}", i - 1)).collect();
-        format!("scalar 4{wrapped}")
-    };
-    let mut table = "scalar 4; scalar 4".to_owned();
-    let (kind, first, second) = match name {
-        "chain" => pair(&nested_maps(511), &leaf()),
-        "chains" => pair(&nested_maps(256), &nested_maps(256)),
-        "arrays" => pair(&crate::bench::nested_arrays(256), &crate::bench::nested_arrays(256)),
-        "types" => {
-            table = chained(1_024);
-            pair(&notation::usage("D4,1023"), &nested_maps(511))
-        }
-        "arrays-types" => {
-            table = chained(1_024);
-            let nest = |inside| notation::usage(&format!("{}{inside}", "A4,4,".repeat(254)));
-            pair(&nest("D4,1023"), &nest("O4[0:O4[0:D4,0]]"))
-        }
-        "fold" => {
-            let nodes: Vec<Usage> =
-                std::iter::once(nested_maps(256)).chain((0..253).map(|_| leaf())).collect();
-            (CallKind::Fold, crate::reading::streams::write_list(&nodes), Vec::new())
-        }
-        "supports" => {
-            table = chained(1_024);
-            (CallKind::Supports, write_memory(&nested_maps(512)), Vec::new())
-        }
-        _ => return None,
-    };
-    let buffer = Buffer { length: 1 << 14, fill: 0 };
-    Some(Call {
-        kind,
-        table: write_table(&notation::table(&table)),
-        work: WORK_AREA,
-        ty: if name == "supports" { 1_023 } else { 0 },
-        offset: 0,
-        first,
-        second,
-        output: buffer,
-        report: buffer,
-    })
+fn merge(table: &Table, pair: [Usage; 2]) -> Call {
+    merging_call(CallKind::Merge, table, &pair)
+}
+
+fn fold() -> Call {
+    let leaves = (0..253).map(|_| leaf());
+    let usages: Vec<Usage> = std::iter::once(nested_maps(256)).chain(leaves).collect();
+    merging_call(CallKind::Fold, &plain_table(), &usages)
+}
+
+fn supports() -> Call {
+    let table = write_table(&nested_types());
+    let stream = write_memory(&nested_maps(512));
+    Call { kind: CallKind::Supports, table, ty: 1_023, ..sound(stream) }
+}
+
+/// 1,024 types, each of which but the first has the one before it as its only field.
+fn nested_types() -> Table {
+    let wrapped: String = (0..1_023).map(|inner| format!("; fields 4 {{0:{inner}}}")).collect();
+    notation::table(&format!("scalar 4{wrapped}"))
+}
+
+fn inside_arrays(inner: &str) -> Usage {
+    notation::usage(&format!("{}{inner}", "A4,4,".repeat(254)))
 }

@@ -82,7 +82,7 @@ pub fn slow() -> String {
     for k in [19, 25, 27, 29] {
         let row = Row::asked("strides that differ", String::new(), strides(k, k), ANY);
         let (nodes, types) = (row.question.nodes(), row.question.types());
-        lines.push(format!("| {nodes} | {types} | {:.2?} |", time(&row.call(), 1)));
+        lines.push(format!("| {nodes} | {types} | {:.2?} |", time(&row.call(), 1, 0)));
     }
     lines.join("\n")
 }
@@ -124,9 +124,9 @@ impl Row {
         if answer.number != 0 || !right {
             return Err(format!("{}, {}: {answer}", self.shape, self.size));
         }
-        let each = TOGETHER.as_nanos() / RUNS as u128 / time(&call, 1).as_nanos().max(1);
+        let each = TOGETHER.as_nanos() / RUNS as u128 / time(&call, 1, 0).as_nanos().max(1);
         let times = each.clamp(1, 1_000) as u32;
-        let mut runs: Vec<Duration> = (0..RUNS).map(|_| time(&call, times) / times).collect();
+        let mut runs: Vec<Duration> = (0..RUNS).map(|_| time(&call, times, 0) / times).collect();
         runs.sort_unstable();
         Ok(runs[RUNS / 2])
     }
@@ -161,7 +161,7 @@ fn merge_that_asks(ty: u32, at: u32, usage: &Usage) -> (Vec<u8>, Vec<u8>) {
 }
 
 /// A number with commas, or with a power of ten past a million million.
-fn number(number: f64) -> String {
+pub fn number(number: f64) -> String {
     if number >= 1e12 {
         return format!("{number:.1e}").replace('e', " × 10^");
     }
