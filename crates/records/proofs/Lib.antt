@@ -1,7 +1,4 @@
-pub mod Numbers
-pub mod Widths
-pub mod Usages
-pub mod Parts
+pub mod Reading
 pub mod Writing
-pub mod Moving
-pub mod Sanity
+pub mod Copying
+pub mod Usages

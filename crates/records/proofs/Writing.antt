@@ -1,8 +1,10 @@
--- Records after stores: a store of a word changes one field of one record, and what all others say is found by congruence.
+-- Records after stores: a store changes one field of one record, since no two fields meet, and what a record says is found from its
+-- fields.
 -- Assumes nothing.
-use Prim.Native.Nat.{ℕ, _+_, _*_, _<_, _≤_}
+use Prim.Native.Nat.{ℕ, _+_, _-_, _*_, _^_, _<_, _≤_}
 use mathlib.Core.Path.{_≡_, ap, _∙_}
 use mathlib.Core.List.{List}
+use native.Mathlib.Decide.{ℕ-discrete}
 use native.Mathlib.Omega.{arith}
 use lib.Dec.{eqb}
 use lib.ListN.{length}
@@ -13,155 +15,154 @@ use Rattle.definitions.proofs.Choice.{decide}
 use Rattle.qptr.specs.Values.{sizeOf}
 use Rattle.qptr.specs.declared.MaxSize.{MaxSize}
 use Rattle.qptr.specs.declared.MaxSize.the-variants.{Fixed, Dynamic}
-use Rattle.records.specs.Words.{word, put}
-use Rattle.records.specs.Records.{sizeFrom, commandIn, countIn, argumentIn, offsetIn, Same, Written, Sized, Counted, Shifted, Typed, Swapped, Marked}
-use Rattle.records.proofs.Numbers.{length-put, number-put, number-put-other}
-use Rattle.records.proofs.Usages.{holds-move}
+use Rattle.numbers.specs.Words.{numberAt, word, putAt, put}
+use Rattle.numbers.proofs.Numbers.{length-put, number-put, number-put-other}
+use Rattle.records.specs.Records.{sizeFrom, commandIn, nextIn, childIn, countIn, argumentIn, offsetIn, Cell, cell, withNext, withChild, withCount, withSize, withArgument, withOffset, withType, full, alone, Set, Marked}
 
--- what a record's word x is that was n, once v is put as its word y
+-- field k of a record, in their order: four of two bytes, then six of four
+
+abbrev place : ℕ → ℕ
+place k = k * 2 + (k - 4) * 2
+
+abbrev width : ℕ → ℕ
+width k = 2 + (k - 3 - (k - 4)) * 2
+
+-- what field j is that was n, once v is put as field k
 abbrev stored : ℕ → ℕ → ℕ → ℕ → ℕ
-stored y v x n = if eqb x y then v else n
+stored k v j n = if eqb j k then v else n
 
-module _ (s s′ : List ℕ) (q y v i : ℕ) (e : s′ ≡ put s i v) (place : i ≡ q * 32 + y * 4) (h : q * 32 + 32 ≤ length s) (inside : y < 8) (f : v < 4294967296) where
-  other-word : (j : ℕ) → (i < j + 4 → j < i + 4 → ⊥) → word s′ j ≡ word s j
-  other-word j apart = rw e (number-put-other 4 4 s i v j apart)
+pub cell-is : (s : List ℕ) (q k f n l m z t o : ℕ) → commandIn s q ≡ k → numberAt 2 s (q * 32 + 2) ≡ f → nextIn s q ≡ n → childIn s q ≡ l → countIn s q ≡ m → word s (q * 32 + 12) ≡ z → argumentIn s q ≡ t → offsetIn s q ≡ o
+    → cell s q ≡ full k n l m (sizeFrom f z) t o
+cell-is s q k f n l m z t o ek ef en el em ez et eo = cc
 
-  own-word : (x j : ℕ) → j ≡ q * 32 + x * 4 → word s′ j ≡ stored y v x (word s j)
-  own-word x j at = decide (λ (n : ℕ). word s′ j ≡ n) (eqb x y)
-      (λ t. let there : j ≡ i = omega (arith, eqb-true x y t) in rw (e, there) (number-put 4 s i v (omega arith) f))
-      (λ t. other-word j (λ a b. eqb-false x y t (omega arith)))
+module _ (s s′ : List ℕ) (q k v i : ℕ) (e : s′ ≡ putAt (width k) s i v) (at : i ≡ q * 32 + place k) (h : q * 32 + 32 ≤ length s) (some : k < 10) (f : v < 256 ^ width k) where
+  here-only : (m j : ℕ) → j < 10 → m * 32 + place j < q * 32 + place k + width k → q * 32 + place k < m * 32 + place j + width j → (m ≡ q) × (j ≡ k)
+  here-only m j lt a b =
+      let ends : place k + width k ≤ 32 = omega arith in
+      let ends′ : place j + width j ≤ 32 = omega arith in
+      let same : m ≡ q = omega (arith, a, b, ends, ends′) in
+      (same, omega arith)
 
-  word-written : Written s s′ q (stored y v 0 (commandIn s q)) (stored y v 1 (countIn s q))
-      (sizeFrom (stored y v 2 (word s (q * 32 + 8))) (stored y v 3 (word s (q * 32 + 12)))) (stored y v 4 (argumentIn s q)) (stored y v 5 (offsetIn s q))
-  word-written = record {
-    here = record {
-      command = own-word 0 (q * 32) (omega arith);
-      nodes = own-word 1 (q * 32 + 4) (omega arith);
-      size = cc (own-word 2 (q * 32 + 8) (omega arith), own-word 3 (q * 32 + 12) (omega arith));
-      argument = own-word 4 (q * 32 + 16) (omega arith);
-      offset = own-word 5 (q * 32 + 20) (omega arith);
-    };
-    others = λ k ne. record {
-      command = other-word (k * 32) (omega arith);
-      nodes = other-word (k * 32 + 4) (omega arith);
-      size = cc (other-word (k * 32 + 8) (omega arith), other-word (k * 32 + 12) (omega arith));
-      argument = other-word (k * 32 + 16) (omega arith);
-      offset = other-word (k * 32 + 20) (omega arith);
-    };
+  other : (m j x : ℕ) → x ≡ m * 32 + place j → j < 10 → (m ≡ q → j ≡ k → ⊥) → numberAt (width j) s′ x ≡ numberAt (width j) s x
+  other m j x there lt ne = rw e (number-put-other (width k) (width j) s i v x (λ a b. let z : _ = here-only m j lt (omega arith) (omega arith) in ne (z .0) (z .1)))
+
+  own : (j x : ℕ) → x ≡ q * 32 + place j → j < 10 → numberAt (width j) s′ x ≡ stored k v j (numberAt (width j) s x)
+  own j x there lt = decide (λ (n : ℕ). numberAt (width j) s′ x ≡ n) (eqb j k)
+      (λ t. let same : j ≡ k = eqb-true j k t in let here : x ≡ i = omega arith in rw (e, here, same) (number-put (width k) s i v (omega arith) f))
+      (λ t. other q j x there lt (λ a b. eqb-false j k t b))
+
+  field-set : Set s s′ q (full (stored k v 0 (commandIn s q)) (stored k v 2 (nextIn s q)) (stored k v 3 (childIn s q)) (stored k v 4 (countIn s q))
+      (sizeFrom (stored k v 1 (numberAt 2 s (q * 32 + 2))) (stored k v 5 (word s (q * 32 + 12)))) (stored k v 6 (argumentIn s q)) (stored k v 7 (offsetIn s q)))
+  field-set = record {
+    here = cell-is s′ q _ _ _ _ _ _ _ _
+        (own 0 (q * 32) (omega arith) (omega arith))
+        (own 1 (q * 32 + 2) (omega arith) (omega arith))
+        (own 2 (q * 32 + 4) (omega arith) (omega arith))
+        (own 3 (q * 32 + 6) (omega arith) (omega arith))
+        (own 4 (q * 32 + 8) (omega arith) (omega arith))
+        (own 5 (q * 32 + 12) (omega arith) (omega arith))
+        (own 6 (q * 32 + 16) (omega arith) (omega arith))
+        (own 7 (q * 32 + 20) (omega arith) (omega arith));
+    others = λ m ne. cell-is s′ m _ _ _ _ _ _ _ _
+        (other m 0 (m * 32) (omega arith) (omega arith) (λ a b. ne a))
+        (other m 1 (m * 32 + 2) (omega arith) (omega arith) (λ a b. ne a))
+        (other m 2 (m * 32 + 4) (omega arith) (omega arith) (λ a b. ne a))
+        (other m 3 (m * 32 + 6) (omega arith) (omega arith) (λ a b. ne a))
+        (other m 4 (m * 32 + 8) (omega arith) (omega arith) (λ a b. ne a))
+        (other m 5 (m * 32 + 12) (omega arith) (omega arith) (λ a b. ne a))
+        (other m 6 (m * 32 + 16) (omega arith) (omega arith) (λ a b. ne a))
+        (other m 7 (m * 32 + 20) (omega arith) (omega arith) (λ a b. ne a));
   }
 
 -- One field
 
 module _ (s s′ : List ℕ) (q v : ℕ) where
-  commanded : s′ ≡ put s (q * 32) v → q * 32 + 32 ≤ length s → v < 4294967296 → Typed s s′ q v (argumentIn s q)
+  commanded : s′ ≡ putAt 2 s (q * 32) v → q * 32 + 32 ≤ length s → v < 65536 → Set s s′ q (withType v (argumentIn s q) (cell s q))
   unfolding if_then_else_
-  commanded e h f = word-written s s′ q 0 v (q * 32) e (omega arith) h (omega arith) f
+  commanded e h f = field-set s s′ q 0 v (q * 32) e (omega arith) h (omega arith) f
 
-  pub counted : s′ ≡ put s (q * 32 + 4) v → q * 32 + 32 ≤ length s → v < 4294967296 → Counted s s′ q v
+  pub set-next : s′ ≡ putAt 2 s (q * 32 + 4) v → q * 32 + 32 ≤ length s → v < 65536 → Set s s′ q (withNext v (cell s q))
   unfolding if_then_else_
-  counted e h f = word-written s s′ q 1 v (q * 32 + 4) e (omega arith) h (omega arith) f
+  set-next e h f = field-set s s′ q 2 v (q * 32 + 4) e (omega arith) h (omega arith) f
 
-  argued : s′ ≡ put s (q * 32 + 16) v → q * 32 + 32 ≤ length s → v < 4294967296 → Typed s s′ q (commandIn s q) v
+  pub set-child : s′ ≡ putAt 2 s (q * 32 + 6) v → q * 32 + 32 ≤ length s → v < 65536 → Set s s′ q (withChild v (cell s q))
   unfolding if_then_else_
-  argued e h f = word-written s s′ q 4 v (q * 32 + 16) e (omega arith) h (omega arith) f
+  set-child e h f = field-set s s′ q 3 v (q * 32 + 6) e (omega arith) h (omega arith) f
 
-  pub shifted : s′ ≡ put s (q * 32 + 20) v → q * 32 + 32 ≤ length s → v < 4294967296 → Shifted s s′ q v
+  pub set-count : s′ ≡ put s (q * 32 + 8) v → q * 32 + 32 ≤ length s → v < 4294967296 → Set s s′ q (withCount v (cell s q))
   unfolding if_then_else_
-  shifted e h f = word-written s s′ q 5 v (q * 32 + 20) e (omega arith) h (omega arith) f
+  set-count e h f = field-set s s′ q 4 v (q * 32 + 8) e (omega arith) h (omega arith) f
 
-length-stored : (s s′ : List ℕ) (i v : ℕ) → s′ ≡ put s i v → length s′ ≡ length s
-length-stored s s′ i v e = ap length e ∙ length-put 4 s i v
+  pub set-argument : s′ ≡ put s (q * 32 + 16) v → q * 32 + 32 ≤ length s → v < 4294967296 → Set s s′ q (withArgument v (cell s q))
+  unfolding if_then_else_
+  set-argument e h f = field-set s s′ q 6 v (q * 32 + 16) e (omega arith) h (omega arith) f
+
+  pub set-offset : s′ ≡ put s (q * 32 + 20) v → q * 32 + 32 ≤ length s → v < 4294967296 → Set s s′ q (withOffset v (cell s q))
+  unfolding if_then_else_
+  set-offset e h f = field-set s s′ q 7 v (q * 32 + 20) e (omega arith) h (omega arith) f
 
 -- Several fields
 
-sized : (s s₁ s₂ : List ℕ) (q f n : ℕ) → s₁ ≡ put s (q * 32 + 8) f → s₂ ≡ put s₁ (q * 32 + 12) n → q * 32 + 32 ≤ length s → f < 4294967296 → n < 4294967296 → Sized s s₂ q (sizeFrom f n)
+length-stored : (w : ℕ) (s s′ : List ℕ) (i v : ℕ) → s′ ≡ putAt w s i v → length s′ ≡ length s
+length-stored w s s′ i v e = ap length e ∙ length-put w s i v
+
+-- a record set twice, the second time in some parts
+pub set-again : (s s₁ s₂ : List ℕ) (q : ℕ) (c : Cell) (g : Cell → Cell) → Set s s₁ q c → Set s₁ s₂ q (g (cell s₁ q)) → Set s s₂ q (g c)
+set-again s s₁ s₂ q c g A B = record { here = B .here ∙ ap g (A .here); others = λ i ne. B .others i ne ∙ A .others i ne }
+
+sized : (s s₁ s₂ : List ℕ) (q f n : ℕ) → s₁ ≡ putAt 2 s (q * 32 + 2) f → s₂ ≡ put s₁ (q * 32 + 12) n → q * 32 + 32 ≤ length s → f < 65536 → n < 4294967296 → Set s s₂ q (withSize (sizeFrom f n) (cell s q))
 unfolding if_then_else_
 sized s s₁ s₂ q f n e₁ e₂ h ff fn =
-    let A : Sized s s₁ q (sizeFrom f (word s (q * 32 + 12))) = word-written s s₁ q 2 f (q * 32 + 8) e₁ (omega arith) h (omega arith) ff in
-    let B : Sized s₁ s₂ q (sizeFrom (word s₁ (q * 32 + 8)) n) = word-written s₁ s₂ q 3 n (q * 32 + 12) e₂ (omega arith) (omega (arith, length-stored s s₁ (q * 32 + 8) f e₁)) (omega arith) fn in
-    let flag : word s₁ (q * 32 + 8) ≡ f = own-word s s₁ q 2 f (q * 32 + 8) e₁ (omega arith) h (omega arith) ff 2 (q * 32 + 8) (omega arith) in
-    record {
-      here = record { command = cc; nodes = cc; size = cc; argument = cc; offset = cc };
-      others = λ i ne. holds-move (B .others i ne) (A .others i ne);
-    }
+    let l : length s₁ ≡ length s = length-stored 2 s s₁ (q * 32 + 2) f e₁ in
+    let A : Set s s₁ q (withSize (sizeFrom f (word s (q * 32 + 12))) (cell s q)) = field-set s s₁ q 1 f (q * 32 + 2) e₁ (omega arith) h (omega arith) ff in
+    let B : Set s₁ s₂ q (withSize (sizeFrom (numberAt 2 s₁ (q * 32 + 2)) n) (cell s₁ q)) = field-set s₁ s₂ q 5 n (q * 32 + 12) e₂ (omega arith) (omega arith) (omega arith) fn in
+    let flag : numberAt 2 s₁ (q * 32 + 2) ≡ f = own s s₁ q 1 f (q * 32 + 2) e₁ (omega arith) h (omega arith) ff 1 (q * 32 + 2) (omega arith) (omega arith) in
+    set-again s s₁ s₂ q (withSize (sizeFrom f (word s (q * 32 + 12))) (cell s q)) (withSize (sizeFrom f n)) A (rw flag at B)
 
-pub sized-dynamic : (s s₁ s₂ : List ℕ) (q : ℕ) (z : MaxSize) → z ≡ Dynamic → s₁ ≡ put s (q * 32 + 8) 0 → s₂ ≡ put s₁ (q * 32 + 12) 0 → q * 32 + 32 ≤ length s → Sized s s₂ q (sizeOf z)
-sized-dynamic s s₁ s₂ q z e e₁ e₂ h = rw e (sized s s₁ s₂ q 0 0 e₁ e₂ h (omega arith) (omega arith))
+pub set-dynamic : (s s₁ s₂ : List ℕ) (q : ℕ) (z : MaxSize) → z ≡ Dynamic → s₁ ≡ putAt 2 s (q * 32 + 2) 0 → s₂ ≡ put s₁ (q * 32 + 12) 0 → q * 32 + 32 ≤ length s → Set s s₂ q (withSize (sizeOf z) (cell s q))
+set-dynamic s s₁ s₂ q z e e₁ e₂ h = rw e (sized s s₁ s₂ q 0 0 e₁ e₂ h (omega arith) (omega arith))
 
-pub sized-fixed : (s s₁ s₂ : List ℕ) (q : ℕ) (z : MaxSize) (n : ℕ) → z ≡ Fixed n → s₁ ≡ put s (q * 32 + 8) 1 → s₂ ≡ put s₁ (q * 32 + 12) n → q * 32 + 32 ≤ length s → n < 4294967296 → Sized s s₂ q (sizeOf z)
-sized-fixed s s₁ s₂ q z n e e₁ e₂ h f = rw e (sized s s₁ s₂ q 1 n e₁ e₂ h (omega arith) f)
+pub set-fixed : (s s₁ s₂ : List ℕ) (q : ℕ) (z : MaxSize) (n : ℕ) → z ≡ Fixed n → s₁ ≡ putAt 2 s (q * 32 + 2) 1 → s₂ ≡ put s₁ (q * 32 + 12) n → q * 32 + 32 ≤ length s → n < 4294967296 → Set s s₂ q (withSize (sizeOf z) (cell s q))
+set-fixed s s₁ s₂ q z n e e₁ e₂ h f = rw e (sized s s₁ s₂ q 1 n e₁ e₂ h (omega arith) f)
 
-pub typed : (s s₁ s₂ : List ℕ) (q c t : ℕ) → s₁ ≡ put s (q * 32) c → s₂ ≡ put s₁ (q * 32 + 16) t → q * 32 + 32 ≤ length s → c < 4294967296 → t < 4294967296 → Typed s s₂ q c t
-typed s s₁ s₂ q c t e₁ e₂ h fc ft =
-    let A : Typed s s₁ q c (argumentIn s q) = commanded s s₁ q c e₁ h fc in
-    let B : Typed s₁ s₂ q (commandIn s₁ q) t = argued s₁ s₂ q t e₂ (omega (arith, length-stored s s₁ (q * 32) c e₁)) ft in
-    record {
-      here = record { command = cc; nodes = cc; size = cc; argument = cc; offset = cc };
-      others = λ i ne. holds-move (B .others i ne) (A .others i ne);
-    }
+pub set-type : (s s₁ s₂ : List ℕ) (q c t : ℕ) → s₁ ≡ putAt 2 s (q * 32) c → s₂ ≡ put s₁ (q * 32 + 16) t → q * 32 + 32 ≤ length s → c < 65536 → t < 4294967296 → Set s s₂ q (withType c t (cell s q))
+set-type s s₁ s₂ q c t e₁ e₂ h fc ft =
+    let l : length s₁ ≡ length s = length-stored 2 s s₁ (q * 32) c e₁ in
+    set-again s s₁ s₂ q (withType c (argumentIn s q) (cell s q)) (withArgument t) (commanded s s₁ q c e₁ h fc) (set-argument s₁ s₂ q t e₂ (omega arith) ft)
 
-pub written : {s s₁ s₂ s₃ s₄ s₅ : List ℕ} {q c n : ℕ} {z : Size} {t o : ℕ} → s₁ ≡ put s (q * 32) c → s₂ ≡ put s₁ (q * 32 + 4) n → Sized s₂ s₃ q z → s₄ ≡ put s₃ (q * 32 + 16) t → s₅ ≡ put s₄ (q * 32 + 20) o
-    → q * 32 + 32 ≤ length s → length s₃ ≡ length s₂ → c < 4294967296 → n < 4294967296 → t < 4294967296 → o < 4294967296 → Written s s₅ q c n z t o
-written {s} {s₁} {s₂} {s₃} {s₄} {s₅} {q} {c} {n} {t} {o} e₁ e₂ C e₄ e₅ h l fc fn ft fo =
-    let l₁ : length s₁ ≡ length s = length-stored s s₁ (q * 32) c e₁ in
-    let l₂ : length s₂ ≡ length s₁ = length-stored s₁ s₂ (q * 32 + 4) n e₂ in
-    let l₄ : length s₄ ≡ length s₃ = length-stored s₃ s₄ (q * 32 + 16) t e₄ in
-    let A : Typed s s₁ q c (argumentIn s q) = commanded s s₁ q c e₁ h fc in
-    let B : Counted s₁ s₂ q n = counted s₁ s₂ q n e₂ (omega arith) fn in
-    let D : Typed s₃ s₄ q (commandIn s₃ q) t = argued s₃ s₄ q t e₄ (omega arith) ft in
-    let E : Shifted s₄ s₅ q o = shifted s₄ s₅ q o e₅ (omega arith) fo in
-    record {
-      here = record { command = cc; nodes = cc; size = cc; argument = cc; offset = cc };
-      others = λ i ne. holds-move (E .others i ne) (holds-move (D .others i ne) (holds-move (C .others i ne) (holds-move (B .others i ne) (A .others i ne))));
-    }
-
-pub worded : {s s₁ s₂ s₃ s₄ s₅ s₆ : List ℕ} {q c n f z t o : ℕ} → s₁ ≡ put s (q * 32) c → s₂ ≡ put s₁ (q * 32 + 4) n → s₃ ≡ put s₂ (q * 32 + 8) f → s₄ ≡ put s₃ (q * 32 + 12) z → s₅ ≡ put s₄ (q * 32 + 16) t → s₆ ≡ put s₅ (q * 32 + 20) o
-    → q * 32 + 32 ≤ length s → c < 4294967296 → n < 4294967296 → f < 4294967296 → z < 4294967296 → t < 4294967296 → o < 4294967296 → Written s s₆ q c n (sizeFrom f z) t o
-worded {s} {s₁} {s₂} {s₃} {s₄} {q} {c} {n} {f} {z} e₁ e₂ e₃ e₄ e₅ e₆ h fc fn ff fz ft fo =
-    let l₁ : length s₁ ≡ length s = length-stored s s₁ (q * 32) c e₁ in
-    let l₂ : length s₂ ≡ length s₁ = length-stored s₁ s₂ (q * 32 + 4) n e₂ in
-    let l₃ : length s₃ ≡ length s₂ = length-stored s₂ s₃ (q * 32 + 8) f e₃ in
-    let l₄ : length s₄ ≡ length s₃ = length-stored s₃ s₄ (q * 32 + 12) z e₄ in
-    written e₁ e₂ (sized s₂ s₃ s₄ q f z e₃ e₄ (omega arith) ff fz) e₅ e₆ h (omega arith) fc fn ft fo
+pub set-alone : (s s₁ s₂ s₃ s₄ s₅ s₆ : List ℕ) (q c : ℕ) (z : Size) (t o : ℕ) → Set s s₁ q (withType c t (cell s q)) → Set s₁ s₂ q (withNext 0 (cell s₁ q)) → Set s₂ s₃ q (withChild 0 (cell s₂ q))
+    → Set s₃ s₄ q (withCount 1 (cell s₃ q)) → Set s₄ s₅ q (withSize z (cell s₄ q)) → Set s₅ s₆ q (withOffset o (cell s₅ q)) → Set s s₆ q (alone c z t o)
+set-alone s s₁ s₂ s₃ s₄ s₅ s₆ q c z t o A B C D E F =
+    let c₁ : Cell = withType c t (cell s q) in
+    let c₂ : Cell = withNext 0 c₁ in
+    let c₃ : Cell = withChild 0 c₂ in
+    let c₄ : Cell = withCount 1 c₃ in
+    set-again s s₅ s₆ q (withSize z c₄) (withOffset o)
+    (set-again s s₄ s₅ q c₄ (withSize z) (set-again s s₃ s₄ q c₃ (withCount 1) (set-again s s₂ s₃ q c₂ (withChild 0) (set-again s s₁ s₂ q c₁ (withNext 0) A B) C) D) E)
+    F
 
 -- The spare words
 
-module _ (s s′ : List ℕ) (q y v i : ℕ) (e : s′ ≡ put s i v) (place : i ≡ q * 32 + y * 4) (spare : 6 ≤ y) (inside : y < 8) where
-  spare-same : (k : ℕ) → Same s k s′ k
-  spare-same k = record {
-    command = rw e (number-put-other 4 4 s i v (k * 32) (omega arith));
-    nodes = rw e (number-put-other 4 4 s i v (k * 32 + 4) (omega arith));
-    size = rw (e, number-put-other 4 4 s i v (k * 32 + 8) (omega arith), number-put-other 4 4 s i v (k * 32 + 12) (omega arith));
-    argument = rw e (number-put-other 4 4 s i v (k * 32 + 16) (omega arith));
-    offset = rw e (number-put-other 4 4 s i v (k * 32 + 20) (omega arith));
-  }
+spare : (s s′ : List ℕ) (q : ℕ) → Set s s′ q (cell s q) → (i : ℕ) → cell s′ i ≡ cell s i
+spare s s′ q S i = elim (ℕ-discrete i q) [
+  | yes e ↦ rw e (S .here)
+  | no ne ↦ S .others i ne
+]
 
 pub marked : (s s₁ s₂ : List ℕ) (q t p : ℕ) → s₁ ≡ put s (q * 32 + 24) t → s₂ ≡ put s₁ (q * 32 + 28) p → q * 32 + 32 ≤ length s → t < 4294967296 → p < 4294967296 → Marked s s₂ q t p
+unfolding if_then_else_
 marked s s₁ s₂ q t p e₁ e₂ h ft fp =
-    let A : (k : ℕ) → Same s k s₁ k = spare-same s s₁ q 6 t (q * 32 + 24) e₁ (omega arith) (omega arith) (omega arith) in
-    let B : (k : ℕ) → Same s₁ k s₂ k = spare-same s₁ s₂ q 7 p (q * 32 + 28) e₂ (omega arith) (omega arith) (omega arith) in
-    let l : length s₁ ≡ length s = length-stored s s₁ (q * 32 + 24) t e₁ in
+    let l : length s₁ ≡ length s = length-stored 4 s s₁ (q * 32 + 24) t e₁ in
+    let h₁ : q * 32 + 32 ≤ length s₁ = omega arith in
+    let A : Set s s₁ q (cell s q) = field-set s s₁ q 8 t (q * 32 + 24) e₁ (omega arith) h (omega arith) ft in
+    let B : Set s₁ s₂ q (cell s₁ q) = field-set s₁ s₂ q 9 p (q * 32 + 28) e₂ (omega arith) h₁ (omega arith) fp in
     record {
-      same = λ i. holds-move (B i) (A i);
-      tag = rw (e₂, number-put-other 4 4 s₁ (q * 32 + 28) p (q * 32 + 24) (omega arith), e₁) (number-put 4 s (q * 32 + 24) t (omega arith) ft);
-      past = rw e₂ (number-put 4 s₁ (q * 32 + 28) p (omega arith) fp);
-      tags = λ i ne. rw (e₂, number-put-other 4 4 s₁ (q * 32 + 28) p (i * 32 + 24) (omega arith), e₁) (number-put-other 4 4 s (q * 32 + 24) t (i * 32 + 24) (omega arith));
-      pasts = λ i ne. rw (e₂, number-put-other 4 4 s₁ (q * 32 + 28) p (i * 32 + 28) (omega arith), e₁) (number-put-other 4 4 s (q * 32 + 24) t (i * 32 + 28) (omega arith));
+      same = λ i. spare s₁ s₂ q B i ∙ spare s s₁ q A i;
+      tag = other s₁ s₂ q 9 p (q * 32 + 28) e₂ (omega arith) h₁ (omega arith) fp q 8 (q * 32 + 24) (omega arith) (omega arith) (λ a b. omega arith)
+          ∙ own s s₁ q 8 t (q * 32 + 24) e₁ (omega arith) h (omega arith) ft 8 (q * 32 + 24) (omega arith) (omega arith);
+      past = own s₁ s₂ q 9 p (q * 32 + 28) e₂ (omega arith) h₁ (omega arith) fp 9 (q * 32 + 28) (omega arith) (omega arith);
+      tags = λ i ne. other s₁ s₂ q 9 p (q * 32 + 28) e₂ (omega arith) h₁ (omega arith) fp i 8 (i * 32 + 24) (omega arith) (omega arith) (λ a b. ne a)
+          ∙ other s s₁ q 8 t (q * 32 + 24) e₁ (omega arith) h (omega arith) ft i 8 (i * 32 + 24) (omega arith) (omega arith) (λ a b. ne a);
+      pasts = λ i ne. other s₁ s₂ q 9 p (q * 32 + 28) e₂ (omega arith) h₁ (omega arith) fp i 9 (i * 32 + 28) (omega arith) (omega arith) (λ a b. ne a)
+          ∙ other s s₁ q 8 t (q * 32 + 24) e₁ (omega arith) h (omega arith) ft i 9 (i * 32 + 28) (omega arith) (omega arith) (λ a b. ne a);
     }
-
--- Two records
-
--- a record read into words, and written from them
-pub saved : (s : List ℕ) (q : ℕ) {s₁ s₂ : List ℕ} {p c n f z t o : ℕ} → c ≡ commandIn s q → n ≡ countIn s q → f ≡ word s (q * 32 + 8) → z ≡ word s (q * 32 + 12) → t ≡ argumentIn s q → o ≡ offsetIn s q
-    → Written s₁ s₂ p c n (sizeFrom f z) t o → Same s q s₂ p
-saved s q ec en ef ez et eo W = let H : _ = W .here in record { command = cc; nodes = cc; size = cc; argument = cc; offset = cc }
-
-pub swapped : {s s₁ s₂ : List ℕ} {i j c n f z t o jc jn jf jz jt jo : ℕ} → i < j
-    → c ≡ commandIn s i → n ≡ countIn s i → f ≡ word s (i * 32 + 8) → z ≡ word s (i * 32 + 12) → t ≡ argumentIn s i → o ≡ offsetIn s i
-    → jc ≡ commandIn s j → jn ≡ countIn s j → jf ≡ word s (j * 32 + 8) → jz ≡ word s (j * 32 + 12) → jt ≡ argumentIn s j → jo ≡ offsetIn s j
-    → Written s s₁ i jc jn (sizeFrom jf jz) jt jo → Written s₁ s₂ j c n (sizeFrom f z) t o → Swapped s s₂ i j
-swapped {s} {i} {j} lt ec en ef ez et eo ejc ejn ejf ejz ejt ejo A B = record {
-  first = saved s i ec en ef ez et eo B;
-  second = holds-move (B .others i (omega arith)) (saved s j ejc ejn ejf ejz ejt ejo A);
-  others = λ k ni nj. holds-move (B .others k nj) (A .others k ni);
-}

@@ -1,10 +1,19 @@
--- Usages in records, in preorder: a subtree is a run of records.
+-- Usages in records one behind the other, in preorder, as they are loaded: a subtree is a run of records. Links are not looked at.
 -- Assumes nothing.
 use Prim.Native.Nat.{ℕ, suc, _+_}
+use mathlib.Core.Path.{_≡_}
 use mathlib.Core.List.{List}
-use Rattle.definitions.specs.Usage.{Usage, unused, leaf, map, array, Entries, none, entry, size, nodes}
+use Rattle.definitions.specs.Usage.{Size, Usage, unused, leaf, map, array, Entries, none, entry, size, nodes}
 use Rattle.definitions.specs.Command.{headOf}
-use Rattle.records.specs.Records.{Holds}
+use Rattle.records.specs.Records.{commandIn, countIn, sizeIn, argumentIn, offsetIn}
+
+-- what record q of s says, but for its links
+pub record Holds (s : List ℕ) (q c n : ℕ) (z : Size) (t o : ℕ) : Type 0 where
+  pub command : commandIn s q ≡ c
+  pub nodes : countIn s q ≡ n
+  pub size : sizeIn s q ≡ z
+  pub argument : argumentIn s q ≡ t
+  pub offset : offsetIn s q ≡ o
 
 -- record q is the root of u, with the argument t and the offset o
 abbrev pub Root : Usage → ℕ → List ℕ → ℕ → ℕ → Type 0

@@ -1,7 +1,7 @@
 -- `records::put_nodes` meets its contract. One word is stored.
 -- Assumes nothing.
 use borrow.Author.Needs.{needs}
-use Rattle.records.proofs.Writing.{counted}
+use Rattle.records.proofs.Writing.{set-count}
 use Rattle.records.proofs.put_nodes.Statement.{statement}
 use Rattle.records.proofs.put_nodes.Tie as tie
 
@@ -21,7 +21,7 @@ same-length : tie.Need-same-length
 same-length c = search needs
 
 returns : tie.Need-returns
-returns c = search (counted, needs)
+returns c = search (set-count, needs)
 
 pub put-nodes-spec : {M : Type 1} → statement M
 put-nodes-spec =

@@ -1,7 +1,7 @@
 -- `records::put_offset` meets its contract. One word is stored.
 -- Assumes nothing.
 use borrow.Author.Needs.{needs}
-use Rattle.records.proofs.Writing.{shifted}
+use Rattle.records.proofs.Writing.{set-offset}
 use Rattle.records.proofs.put_offset.Statement.{statement}
 use Rattle.records.proofs.put_offset.Tie as tie
 
@@ -18,7 +18,7 @@ same-length : tie.Need-same-length
 same-length c = search needs
 
 returns : tie.Need-returns
-returns c = search (shifted, needs)
+returns c = search (set-offset, needs)
 
 pub put-offset-spec : {M : Type 1} → statement M
 put-offset-spec = tie.close (tie.spec mul-put32 add-put32 put32-requires same-length returns)

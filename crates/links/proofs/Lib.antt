@@ -1,0 +1,10 @@
+pub mod Stands
+pub mod Frames
+pub mod Changes
+pub mod Rows
+pub mod Chains
+pub mod Ranks
+pub mod Fingers
+pub mod Weights
+pub mod Shapes
+pub mod Sanity

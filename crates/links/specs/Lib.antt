@@ -1,0 +1,4 @@
+pub mod Standing
+pub mod Rows
+pub mod Frames
+pub mod Ranks
