@@ -1,0 +1,14 @@
+pub mod Commands
+pub mod Places
+pub mod Numbers
+pub mod Widths
+pub mod Pending
+pub mod Fits
+pub mod OwnRead
+pub mod Onward
+pub mod Linked
+pub mod Loading
+pub mod Tying
+pub mod Rooting
+pub mod Backwards
+pub mod Sanity

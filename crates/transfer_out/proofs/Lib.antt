@@ -1,0 +1,10 @@
+pub mod Widths
+pub mod Stores
+pub mod OwnStored
+pub mod Lengths
+pub mod Roots
+pub mod Counting
+pub mod Writing
+pub mod Measuring
+pub mod Storing
+pub mod Sanity
