@@ -1,4 +1,3 @@
-pub mod Roots
 pub mod Leaves
 pub mod Types
 pub mod Components
@@ -9,7 +8,6 @@ pub mod Itself
 pub mod Rules
 pub mod Staying
 pub mod Remembering
-pub mod Marking
+pub mod Whole
 pub mod Asking
 pub mod Sanity
-pub mod Empties

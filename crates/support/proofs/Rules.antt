@@ -11,7 +11,7 @@ use Rattle.definitions.specs.Usage.{Size, Usage, size}
 use Rattle.definitions.specs.Table.{Setting, TypeLayout as Layout, concrete, handle, failed, layoutOf, isConcrete}
 use Rattle.definitions.specs.Support.{Asking, outside, componentSupports, itself, supportRules, supports}
 use Rattle.records.specs.Records.{commandIn, sizeIn}
-use Rattle.records.specs.Usages.{At}
+use Rattle.links.specs.Standing.{Stands}
 use Rattle.layout.specs.Values.{partsOf, layoutIn}
 use Rattle.layout.specs.Places.{Known, LayoutIs}
 use Rattle.layout.specs.declared.Components.{Components}
@@ -22,7 +22,7 @@ use Rattle.support.specs.Answers.{WholeLeaf, Supports, ComponentSupports
 use Rattle.support.specs.Memory.{LeftOpen, FirstSays}
 use Rattle.support.specs.declared.First.{First}
 use Rattle.support.specs.declared.First.the-variants.{No, Yes, Open}
-use Rattle.support.proofs.Roots.{size-is}
+use Rattle.support_memory.proofs.Roots.{size-is}
 use Rattle.support.proofs.Leaves.{unused-is, used-is}
 use Rattle.support.proofs.Types.{one-step, layout-is, components-of}
 
@@ -41,36 +41,36 @@ no-rules st ask ty failed at u h = refl
 module _ {table places : List ℕ} {ty at : ℕ} {s : List ℕ} {q : ℕ} {r : TypeLayout} (l : LayoutIs table places ty r) where
   pub not-concrete : {v : TypeLayout} → r ≡ v → isConcrete (layoutIn table v) ≡ false → Supports table places ty at s q false
   not-concrete {v} y h = record {
-    is = λ st k b u o a.
+    is = λ st k b u r lo hi a.
         rw (one-step st k ty at u, layout-is l y st k b) (no-rules st (supports st) ty (layoutIn table v) at u h);
   }
 
   module _ {n d : ℕ} {cs : Components} (y : r ≡ Concrete n d cs) where
     by-rules : {v : Bool} →
         ((st : Setting) → Known table places st → ty < length (st .table) → layoutOf (st .table) ty ≡ concrete n d (partsOf table cs) →
-        (u : Usage) (o : ℕ) → At u s q o → v ≡ supportRules st (supports st) ty (concrete n d (partsOf table cs)) at u) →
+        (u : Usage) (r : ℕ → ℕ) (lo hi : ℕ) → Stands u s q r lo hi → v ≡ supportRules st (supports st) ty (concrete n d (partsOf table cs)) at u) →
         Supports table places ty at s q v
     by-rules f = record {
-      is = λ st k b u o a. let e = layout-is l y st k b in rw (one-step st k ty at u, e) (f st k b e u o a);
+      is = λ st k b u r lo hi a. let e = layout-is l y st k b in rw (one-step st k ty at u, e) (f st k b e u r lo hi a);
     }
 
     module _ {c : ℕ} (x : c ≡ commandIn s q) where
       pub unused-supported : c ≡ 0 → Supports table places ty at s q true
       unfolding if_then_else_
-      unused-supported z = by-rules λ st k b e u o a. rw (unused-is u s q o a x z)
+      unused-supported z = by-rules λ st k b e u r lo hi a. rw (unused-is u s q r lo hi a x z)
 
       module _ {v : Bool} (z : c ≡ 0 → ⊥) (leaf : WholeLeaf ty at s q v) where
         pub leaf-supported : v ≡ true → Supports table places ty at s q true
         unfolding if_then_else_
-        leaf-supported t = by-rules λ st k b e u o a. rw (used-is u s q o a x z, ← leaf .is u o a, t)
+        leaf-supported t = by-rules λ st k b e u r lo hi a. rw (used-is u s q r lo hi a x z, ← leaf .is u r lo hi a, t)
 
         module _ {g : Bool} {m : Size} (t : v ≡ false) (here : m ≡ sizeIn s q) (large : g ≡ (eqb d 0 && outside n at m)) where
-          large-is : (u : Usage) (o : ℕ) → At u s q o → (eqb d 0 && outside n at (size u)) ≡ g
-          large-is u o a = sym (large ∙ ap (λ (m : Size). eqb d 0 && outside n at m) (here ∙ size-is u s q o a))
+          large-is : (u : Usage) (r : ℕ → ℕ) (lo hi : ℕ) → Stands u s q r lo hi → (eqb d 0 && outside n at (size u)) ≡ g
+          large-is u r lo hi a = sym (large ∙ ap (λ (m : Size). eqb d 0 && outside n at m) (here ∙ size-is u s q r lo hi a))
 
           pub large-refused : g ≡ true → Supports table places ty at s q false
           unfolding if_then_else_
-          large-refused f = by-rules λ st k b e u o a. rw (used-is u s q o a x z, ← leaf .is u o a, t, large-is u o a, f)
+          large-refused f = by-rules λ st k b e u r lo hi a. rw (used-is u s q r lo hi a x z, ← leaf .is u r lo hi a, t, large-is u r lo hi a, f)
 
           pub left-open : g ≡ false → LeftOpen table places ty at s q
           unfolding if_then_else_
@@ -78,8 +78,8 @@ module _ {table places : List ℕ} {ty at : ℕ} {s : List ℕ} {q : ℕ} {r : T
             used = λ e. z (x ∙ e);
             parts = cs;
             components = components-of l y;
-            is = λ st k b u o a.
-                rw (one-step st k ty at u, layout-is l y st k b, used-is u s q o a x z, ← leaf .is u o a, t, large-is u o a, f)
+            is = λ st k b u r lo hi a.
+                rw (one-step st k ty at u, layout-is l y st k b, used-is u s q r lo hi a x z, ← leaf .is u r lo hi a, t, large-is u r lo hi a, f)
                 (either-or (componentSupports st (supports st) (partsOf table cs) at u) _);
           }
 
@@ -99,18 +99,18 @@ module _ {table places : List ℕ} {ty at : ℕ} {s : List ℕ} {q : ℕ} {r : F
 
 module _ {table places : List ℕ} {ty at : ℕ} {s : List ℕ} {q : ℕ} {h : Bool}
     (w : LeftOpen table places ty at s q) (parts : ComponentSupports table places ty at s q h) where
-  parts-say : (st : Setting) → Known table places st → ty < length (st .table) → (u : Usage) (o : ℕ) → At u s q o →
+  parts-say : (st : Setting) → Known table places st → ty < length (st .table) → (u : Usage) (r : ℕ → ℕ) (lo hi : ℕ) → Stands u s q r lo hi →
       supports st ty at u ≡ (h || itself st (supports st) ty (partsOf table (w .parts)) at u)
-  parts-say st k b u o a =
+  parts-say st k b u r lo hi a =
       let p = w .components in
-      rw (w .is st k b u o a, ← parts .is st k b (p .size) (p .stride) (partsOf table (w .parts)) (layout-is (p .is) refl st k b) u o a)
+      rw (w .is st k b u r lo hi a, ← parts .is st k b (p .size) (p .stride) (partsOf table (w .parts)) (layout-is (p .is) refl st k b) u r lo hi a)
 
   pub part-supported : h ≡ true → Supports table places ty at s q true
-  part-supported e = record { is = λ st k b u o a. rw (parts-say st k b u o a, e) }
+  part-supported e = record { is = λ st k b u r lo hi a. rw (parts-say st k b u r lo hi a, e) }
 
   pub itself-asked : {i : Bool} → h ≡ false → ItselfSupports table places ty at s q i → Supports table places ty at s q i
   itself-asked e self = record {
-    is = λ st k b u o a.
+    is = λ st k b u r lo hi a.
         let p = w .components in
-        rw (parts-say st k b u o a, e) (self .is st k b (p .size) (p .stride) (partsOf table (w .parts)) (layout-is (p .is) refl st k b) u o a);
+        rw (parts-say st k b u r lo hi a, e) (self .is st k b (p .size) (p .stride) (partsOf table (w .parts)) (layout-is (p .is) refl st k b) u r lo hi a);
   }

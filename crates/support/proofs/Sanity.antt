@@ -10,8 +10,8 @@ use Rattle.definitions.specs.Usage.{Usage, leaf, fixed}
 use Rattle.definitions.specs.Stream.{bytes}
 use Rattle.definitions.specs.Table.{Setting, concrete, scalar, elements, tableOf}
 use Rattle.definitions.specs.Support.{supports, supportsIn}
-use Rattle.records.specs.Words.{numberAt}
-use Rattle.records.specs.Usages.{At}
+use Rattle.numbers.specs.Words.{numberAt}
+use Rattle.links.specs.Standing.{Stands}
 use Rattle.layout.specs.Places.{Placed}
 use Rattle.support.specs.Known.{Askable}
 
@@ -32,12 +32,12 @@ places = 2 ∷ 11 ∷ []
 setting : Setting
 setting = record { table = concrete 4 0 scalar ∷ concrete 16 0 (elements 4 0 4) ∷ [] }
 
--- a leaf of type 0
+-- a leaf of type 0, as record 1
 asked : Usage
 asked = leaf (fixed 4) true 0
 
-record-of-it : List ℕ
-record-of-it = bytes 4 1 ++ bytes 4 1 ++ bytes 4 1 ++ bytes 4 4 ++ bytes 4 0 ++ bytes 4 0 ++ bytes 8 0
+records-with-it : List ℕ
+records-with-it = bytes 32 0 ++ bytes 2 1 ++ bytes 2 1 ++ bytes 4 0 ++ bytes 4 1 ++ bytes 4 4 ++ bytes 4 0 ++ bytes 4 0 ++ bytes 8 0
 
 stands : (ty : ℕ) → ty < 2 → Placed table (setting .table) places ty
 unfolding table places setting first second if_then_else_
@@ -45,16 +45,19 @@ stands zero l = record { kept = omega arith; rest = second; stands = refl; admit
 stands (suc zero) l = record { kept = omega arith; rest = []; stands = refl; admits = refl }
 stands (suc (suc ty)) l = absurd (omega arith)
 
-askable : Askable table places 1 record-of-it 0
-unfolding table setting first second asked record-of-it tableOf if_then_else_ At numberAt
+askable : Askable table places 1 records-with-it 1
+unfolding table setting first second asked records-with-it tableOf if_then_else_ Stands numberAt
 askable = record {
   type = record { setting = setting; known = record { read = refl; placed = stands }; below = omega arith };
   usage = record {
     usage = asked;
-    offset = 0;
-    at = record { command = refl; nodes = refl; size = refl; argument = refl; offset = refl };
-    within = omega arith;
+    rank = λ i. i;
+    lo = 1;
+    hi = 2;
+    stands = (record { some = omega arith; inside = omega arith; low = omega arith; high = omega arith; command = refl; size = refl }, refl);
     few = omega arith;
+    within = omega arith;
+    linkable = omega arith;
   };
 }
 

@@ -1,16 +1,14 @@
--- What a question of support is put to and put about: a type of the table that stands in the bytes, and a usage in records.
+-- What a question of support is put to and put about: a type of the table that stands in the bytes, and a usage in linked records.
 -- Assumes nothing.
-use Prim.Native.Nat.{ℕ, _+_, _*_, _<_, _≤_}
+use Prim.Native.Nat.{ℕ, _<_}
 use mathlib.Core.Path.{_≡_}
 use mathlib.Core.List.{List}
 use lib.ListN.{length}
-use Rattle.definitions.specs.Usage.{Usage, nodes}
 use Rattle.definitions.specs.Table.{Setting, Components as Parts, concrete, layoutOf}
-use Rattle.records.specs.Records.{Same}
-use Rattle.records.specs.Usages.{At}
 use Rattle.layout.specs.Places.{Known, LayoutIs}
 use Rattle.layout.specs.declared.Components.{Components}
 use Rattle.layout.specs.declared.TypeLayout.the-variants.{Concrete}
+use Rattle.support_memory.specs.Nodes.{UsageAt}
 
 -- there is a setting whose table the bytes are, and the type is one of it
 pub record TypeKnown (table places : List ℕ) (ty : ℕ) : Type 0 where
@@ -18,18 +16,10 @@ pub record TypeKnown (table places : List ℕ) (ty : ℕ) : Type 0 where
   pub known : Known table places setting
   pub below : ty < length (setting .table)
 
--- a usage stands from record q on, within s
-pub record Stands (s : List ℕ) (q : ℕ) : Type 0 where
-  pub usage : Usage
-  pub offset : ℕ
-  pub at : At usage s q offset
-  pub within : (q + nodes usage) * 32 ≤ length s
-  pub few : q + nodes usage ≤ 65536
-
 -- the type may be asked about the usage at record q
 pub record Askable (table places : List ℕ) (ty : ℕ) (s : List ℕ) (q : ℕ) : Type 0 where
   pub type : TypeKnown table places ty
-  pub usage : Stands s q
+  pub usage : UsageAt s q
 
 -- its layout is concrete
 pub record ConcreteType (table places : List ℕ) (ty : ℕ) : Type 0 where
@@ -52,7 +42,3 @@ pub record ComponentsOf (table places : List ℕ) (ty : ℕ) (cs : Components) :
   pub size : ℕ
   pub stride : ℕ
   pub is : LayoutIs table places ty (Concrete size stride cs)
-
--- each record says what it said, so that each usage stands where it stood
-pub record Unchanged (s s′ : List ℕ) : Type 0 where
-  pub same : (i : ℕ) → Same s i s′ i

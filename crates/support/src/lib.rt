@@ -1,15 +1,16 @@
 // What a layout supports: the source's `supports_usage_at_offset`, over a usage's records and a table's bytes.
 ghost use mathlib.Core.Path.{_≡_};
-ghost use mathlib.Core.Bool.{true, _&&_, _||_};
-ghost use Prim.Native.Nat.{_+_, _*_, _%_, _<_, _≤_};
+ghost use mathlib.Core.Bool.{true, false, _&&_};
+ghost use Prim.Native.Nat.{_+_, _*_, _<_, _≤_};
 ghost use lib.Dec.{eqb};
 ghost use lib.ListN.{length};
 ghost use Rattle.definitions.specs.Support.{outside, sameLength};
 ghost use Rattle.qptr.specs.Values.{sizeOf};
-ghost use Rattle.records.specs.Records.{commandIn, countIn, sizeIn};
-ghost use Rattle.support.specs.Known.{ConcreteType, Askable, ConcreteAskable, ComponentsOf, Stands, Unchanged};
-ghost use Rattle.support.specs.Answers.{WholeLeaf, isEmpty, Supports, ComponentSupports, EntrySupported, EntriesSupported, ElementsSupported, ItselfSupports, Answers};
-ghost use Rattle.support.specs.Memory.{tagOf, Memory, Kept, LeftOpen, FirstSays, LooksUp, Recollects, Keeps, Remembers, Blank, Forgotten};
+ghost use Rattle.records.specs.Records.{commandIn};
+ghost use Rattle.support_memory.specs.Nodes.{Unchanged, Blank};
+ghost use Rattle.support.specs.Known.{ConcreteType, Askable, ConcreteAskable, ComponentsOf};
+ghost use Rattle.support.specs.Answers.{WholeLeaf, Supports, ComponentSupports, EntrySupported, EntriesSupported, ElementsSupported, ItselfSupports, Says, Answers};
+ghost use Rattle.support.specs.Memory.{Memory, Kept, LeftOpen, FirstSays, AtOnce, RecallsOf};
 use layout::Components;
 use layout::Containing;
 use layout::TypeLayout;
@@ -18,38 +19,26 @@ use layout::find_components_containing;
 use layout::layout_of;
 use qptr::MaxSize;
 use records::argument;
+use records::child;
 use records::command;
 use records::max_size;
-use records::nodes;
+use records::next;
 use records::offset;
-use records::past;
-use records::put_mark;
-use records::tag;
+use support_memory::LONG_WORDS;
+use support_memory::Recalled;
+use support_memory::SHORT_WORDS;
+use support_memory::forget;
+use support_memory::recall;
+use support_memory::remember;
 
 // The last number of 32 bits.
 const MAX: u32 = 4294967295;
-
-// How many answers a short list has room for, and a long one; and their words, two for each answer.
-const SHORT: usize = 256;
-
-const LONG: usize = 4096;
-
-const SHORT_WORDS: usize = 512;
-
-const LONG_WORDS: usize = 8192;
 
 // What the first tests say: an answer, or that the components are asked, and then the usage itself.
 enum First {
     No,
     Yes,
     Open,
-}
-
-// What is remembered of a question.
-enum Recalled {
-    Nothing,
-    No,
-    Yes,
 }
 
 // Is a usage of this size, at this offset, dynamic or past the layout's size?
@@ -136,155 +125,6 @@ fn first_tests(table: &[u8], places: &[u32], ty: u32, at: u32, s: &[u8], q: usiz
     }
 }
 
-// A number, and one more for no or two for yes. 0 is no tag.
-fn tag_of(k: u32, yes: bool) -> u32
-    requires { ⌜ k < 134217728 ⌝ }
-    ensures { λ r. ⌜ r ≡ tagOf k yes ⌝ }
-{
-    if yes {
-        return k * 2 + 2;
-    }
-    k * 2 + 1
-}
-
-// A node of the usage and a type of the table in one number.
-fn node_and_type(ty: u32, q: usize) -> u32
-    requires { ⌜ (ty < 1024) × (q < 65536) ⌝ }
-    ensures { λ r. ⌜ (r ≡ q * 1024 + ty) × (r < 134217728) ⌝ }
-{
-    q as u32 * 1024 + ty
-}
-
-// Which of n places in a list a question has. Any would do; these lie far apart for questions that follow each other.
-fn slot(k: u32, at: u32, n: usize) -> usize
-    requires { ⌜ (k < 134217728) × (256 ≤ n) ⌝ }
-    ensures { λ r. ⌜ r < n ⌝ }
-{
-    let i = ((k as u64 * 2654435769 / 65536 + at as u64 * 97) % LONG as u64) as usize;
-    if i < n {
-        return i;
-    }
-    i % SHORT
-}
-
-// What a list has of a question.
-fn look_up(answers: &[u32], ty: u32, at: u32, q: usize) -> Recalled
-    requires { ⌜ (ty < 1024) × (q < 65536) ⌝ }
-    ensures { λ r. ⌜ LooksUp ty at q (now (answers .entry)) r ⌝ }
-{
-    let n = answers.len() / 2;
-    if n < SHORT {
-        return Recalled::Nothing;
-    }
-    let k = node_and_type(ty, q);
-    let i = slot(k, at, n) * 2;
-    if answers[i + 1] != at {
-        return Recalled::Nothing;
-    }
-    let t = answers[i];
-    if t == tag_of(k, false) {
-        return Recalled::No;
-    }
-    if t == tag_of(k, true) {
-        return Recalled::Yes;
-    }
-    Recalled::Nothing
-}
-
-// An answer is put into a list, over what has its place.
-fn keep(answers: &mut [u32], ty: u32, at: u32, q: usize, yes: bool)
-    requires { ⌜ (ty < 1024) × (q < 65536) ⌝ }
-    ensures { λ r. ⌜ Keeps (now (answers .entry)) (now (answers .exit)) ty at q yes ⌝ }
-{
-    let n = answers.len() / 2;
-    if n < SHORT {
-        return;
-    }
-    let k = node_and_type(ty, q);
-    let i = slot(k, at, n) * 2;
-    answers[i] = tag_of(k, yes);
-    answers[i + 1] = at;
-}
-
-// A node remembers the last question that went past the first tests, the type as its tag and the offset; others may be in the list.
-fn recall(ty: u32, at: u32, s: &[u8], q: usize, answers: &[u32]) -> Recalled
-    requires { ⌜ (ty < 1024) × (q < 65536) × (q * 32 + 32 ≤ length (now s)) ⌝ }
-    ensures { λ r. ⌜ Recollects ty at (now (s .entry)) q (now (answers .entry)) r ⌝ }
-{
-    if past(s, q) == at {
-        let t = tag(s, q);
-        if t == tag_of(ty, false) {
-            return Recalled::No;
-        }
-        if t == tag_of(ty, true) {
-            return Recalled::Yes;
-        }
-    }
-    look_up(answers, ty, at, q)
-}
-
-fn remember(ty: u32, at: u32, s: &mut [u8], q: usize, answers: &mut [u32], yes: bool)
-    requires { ⌜ (ty < 1024) × (q < 65536) × (q * 32 + 32 ≤ length (now s)) ⌝ }
-    ensures { λ r. ⌜ Remembers ty at (now (s .entry)) (now (s .exit)) q (now (answers .entry)) (now (answers .exit)) yes ⌝ }
-{
-    put_mark(s, q, tag_of(ty, yes), at);
-    keep(answers, ty, at, q, yes);
-}
-
-// Is record q a usage of fixed size 0, and not Unused?
-fn is_empty(s: &[u8], q: usize) -> bool
-    requires { ⌜ q * 32 + 32 ≤ length (now s) ⌝ }
-    ensures { λ r. ⌜ r ≡ isEmpty (commandIn (now (s .entry)) q) (sizeIn (now (s .entry)) q) ⌝ }
-{
-    if command(s, q) == 0 {
-        return false;
-    }
-    match max_size(s, q) {
-        MaxSize::Dynamic => false,
-        MaxSize::Fixed(n) => n == 0,
-    }
-}
-
-// Can the same questions about record i, of the usage at record q, come back in turns? They can where one question leads to several:
-// for a usage of size 0, which many components contain, and for maps and arrays inside of others, whose offsets differ by the way.
-// Nothing is promised of the answer, which only chooses how long a list of answers is: with any list the same is supported.
-fn is_asked_in_turns(s: &[u8], q: usize, i: usize) -> bool
-    requires { ⌜ i * 32 + 32 ≤ length (now s) ⌝ }
-{
-    if is_empty(s, i) {
-        return true;
-    }
-    if i == q {
-        return false;
-    }
-    3 <= command(s, i)
-}
-
-fn either(a: bool, b: bool) -> bool
-    ensures { λ r. ⌜ r ≡ (a || b) ⌝ }
-{
-    if a {
-        return true;
-    }
-    b
-}
-
-// The usage at record q remembers nothing. Is a list of answers worth its cost? Of that nothing is promised, as above.
-fn forget(s: &mut [u8], q: usize) -> bool
-    requires { ⌜ Stands (now s) q ⌝ }
-    ensures { λ r. ⌜ Forgotten (now (s .entry)) (now (s .exit)) q ⌝ }
-{
-    let end = q + nodes(s, q);
-    let mut listed = false;
-    let mut i = q;
-    while i < end {
-        put_mark(s, i, 0, 0);
-        listed = either(listed, is_asked_in_turns(s, q, i));
-        i = i + 1;
-    }
-    listed
-}
-
 // Does some component that contains the usage at record q support it at the remaining offset?
 fn any_component_supports(
     table: &[u8],
@@ -303,7 +143,7 @@ fn any_component_supports(
     let end = end_of(at, max_size(s, q));
     let mut from = 0;
     loop {
-        match find_components_containing(&*table, &*places, ty, from, at, end) {
+        match find_components_containing(table, places, ty, from, at, end) {
             Containing::Nothing => {
                 return false;
             }
@@ -312,7 +152,7 @@ fn any_component_supports(
                 rest,
                 next,
             } => {
-                if supports_inside(&*table, &*places, component, rest, s, q, answers) {
+                if supports_inside(table, places, component, rest, s, q, answers, true) {
                     return true;
                 }
                 from = next;
@@ -337,13 +177,12 @@ fn entries_supported(
     ensures { λ r. ⌜ EntriesSupported (now (table .entry)) (now (places .entry)) ty at (now (s .entry)) q r ⌝ }
     ensures { λ r. ⌜ Kept (now (table .entry)) (now (places .entry)) (now (s .entry)) (now (s .exit)) (now (answers .entry)) (now (answers .exit)) ⌝ }
 {
-    let end = q + nodes(s, q);
-    let mut e = q + 1;
-    while e < end {
-        if !entry_supported(&*table, &*places, ty, at, s, e, answers) {
+    let mut e = child(s, q);
+    while e != 0 {
+        if !entry_supported(table, places, ty, at, s, e, answers) {
             return false;
         }
-        e = e + nodes(s, e);
+        e = next(s, e);
     }
     true
 }
@@ -368,10 +207,7 @@ fn entry_supported(
         return false;
     }
     let sum = at + o;
-    if sum == 0 {
-        return supports_inside(&*table, &*places, ty, 0, s, e, answers);
-    }
-    any_component_supports(&*table, &*places, ty, sum, s, e, answers)
+    supports_inside(table, places, ty, sum, s, e, answers, sum == 0)
 }
 
 // Do elements of this stride, type and length support the array at record q? Its stride has to be theirs.
@@ -401,7 +237,8 @@ fn elements_supported(
     if !same_length(stride, len, at, max_size(s, q)) {
         return false;
     }
-    supports_inside(&*table, &*places, elem, 0, s, q + 1, answers)
+    let e = child(s, q);
+    supports_inside(table, places, elem, 0, s, e, answers, true)
 }
 
 // The components of a concrete layout.
@@ -434,21 +271,21 @@ fn itself_supports(
 {
     let kind = command(s, q);
     if kind == 3 {
-        return entries_supported(&*table, &*places, ty, at, s, q, answers);
+        return entries_supported(table, places, ty, at, s, q, answers);
     }
     if kind != 4 {
         return false;
     }
-    match components_of(&*table, &*places, ty) {
+    match components_of(table, places, ty) {
         Components::Scalar => false,
         Components::Fields { .. } => false,
         Components::Elements { stride, elem, len } => {
-            elements_supported(&*table, &*places, stride, elem, len, at, s, q, answers)
+            elements_supported(table, places, stride, elem, len, at, s, q, answers)
         }
     }
 }
 
-// What the first tests leave open: the components are asked, and then the usage itself.
+// What is left open: the components are asked, and then, of the whole layout, the usage itself.
 fn supports_past_tests(
     table: &[u8],
     places: &[u32],
@@ -457,20 +294,36 @@ fn supports_past_tests(
     s: &mut [u8],
     q: usize,
     answers: &mut [u32],
+    whole: bool,
 ) -> bool
-    requires { ⌜ Askable (now table) (now places) ty (now s) q ⌝ }
+    requires { ⌜ ConcreteAskable (now table) (now places) ty (now s) q ⌝ }
     requires { ⌜ Memory (now table) (now places) (now s) q (now answers) ⌝ }
-    requires { ⌜ LeftOpen (now table) (now places) ty at (now s) q ⌝ }
-    ensures { λ r. ⌜ Supports (now (table .entry)) (now (places .entry)) ty at (now (s .entry)) q r ⌝ }
+    requires { ⌜ (whole ≡ true → LeftOpen (now table) (now places) ty at (now s) q) ⌝ }
+    ensures { λ r. ⌜ Says (now (table .entry)) (now (places .entry)) ty at (now (s .entry)) q whole r ⌝ }
     ensures { λ r. ⌜ Kept (now (table .entry)) (now (places .entry)) (now (s .entry)) (now (s .exit)) (now (answers .entry)) (now (answers .exit)) ⌝ }
 {
-    if any_component_supports(&*table, &*places, ty, at, s, q, answers) {
+    if any_component_supports(table, places, ty, at, s, q, answers) {
         return true;
     }
-    itself_supports(&*table, &*places, ty, at, s, q, answers)
+    if !whole {
+        return false;
+    }
+    itself_supports(table, places, ty, at, s, q, answers)
 }
 
-// What the first tests leave open inside of another question is recalled, or asked and remembered.
+// Answers of the whole layout are remembered, those of its components alone are not.
+fn recall_whole(ty: u32, at: u32, s: &[u8], q: usize, answers: &[u32], whole: bool) -> Recalled
+    requires { ⌜ (ty < 1024) × (q < 65536) × (q * 32 + 32 ≤ length (now s)) ⌝ }
+    ensures { λ r. ⌜ RecallsOf ty at (now (s .entry)) q (now (answers .entry)) whole r ⌝ }
+{
+    if whole {
+        return recall(ty, at, s, q, answers);
+    }
+    Recalled::Nothing
+}
+
+// What is left open is recalled, or asked and remembered. All questions inside of others come here, so that the compiler makes one frame
+// of this function and those it goes through, and types nested deep take little stack.
 fn supports_or_recalls(
     table: &[u8],
     places: &[u32],
@@ -479,25 +332,48 @@ fn supports_or_recalls(
     s: &mut [u8],
     q: usize,
     answers: &mut [u32],
+    whole: bool,
 ) -> bool
-    requires { ⌜ Askable (now table) (now places) ty (now s) q ⌝ }
+    requires { ⌜ ConcreteAskable (now table) (now places) ty (now s) q ⌝ }
     requires { ⌜ Memory (now table) (now places) (now s) q (now answers) ⌝ }
-    requires { ⌜ LeftOpen (now table) (now places) ty at (now s) q ⌝ }
-    ensures { λ r. ⌜ Supports (now (table .entry)) (now (places .entry)) ty at (now (s .entry)) q r ⌝ }
+    requires { ⌜ (whole ≡ true → LeftOpen (now table) (now places) ty at (now s) q) ⌝ }
+    ensures { λ r. ⌜ Says (now (table .entry)) (now (places .entry)) ty at (now (s .entry)) q whole r ⌝ }
     ensures { λ r. ⌜ Kept (now (table .entry)) (now (places .entry)) (now (s .entry)) (now (s .exit)) (now (answers .entry)) (now (answers .exit)) ⌝ }
 {
-    match recall(ty, at, s, q, answers) {
+    match recall_whole(ty, at, s, q, answers, whole) {
         Recalled::No => false,
         Recalled::Yes => true,
         Recalled::Nothing => {
-            let yes = supports_past_tests(&*table, &*places, ty, at, s, q, answers);
+            let yes = supports_past_tests(table, places, ty, at, s, q, answers, whole);
+            if !whole {
+                return yes;
+            }
             remember(ty, at, s, q, answers, yes);
             yes
         }
     }
 }
 
-// A question inside of another.
+// The first tests are of the whole layout; its components alone are left open.
+fn test_whole(
+    table: &[u8],
+    places: &[u32],
+    ty: u32,
+    at: u32,
+    s: &[u8],
+    q: usize,
+    whole: bool,
+) -> First
+    requires { ⌜ Askable (now table) (now places) ty (now s) q ⌝ }
+    ensures { λ r. ⌜ AtOnce (now (table .entry)) (now (places .entry)) ty at (now (s .entry)) q whole r ⌝ }
+{
+    if whole {
+        return first_tests(table, places, ty, at, s, q);
+    }
+    First::Open
+}
+
+// A question inside of another, of the whole layout or of its components alone.
 fn supports_inside(
     table: &[u8],
     places: &[u32],
@@ -506,25 +382,25 @@ fn supports_inside(
     s: &mut [u8],
     q: usize,
     answers: &mut [u32],
+    whole: bool,
 ) -> bool
     requires { ⌜ Askable (now table) (now places) ty (now s) q ⌝ }
     requires { ⌜ Memory (now table) (now places) (now s) q (now answers) ⌝ }
-    ensures { λ r. ⌜ Supports (now (table .entry)) (now (places .entry)) ty at (now (s .entry)) q r ⌝ }
+    requires { ⌜ (whole ≡ false → ConcreteAskable (now table) (now places) ty (now s) q) ⌝ }
+    ensures { λ r. ⌜ Says (now (table .entry)) (now (places .entry)) ty at (now (s .entry)) q whole r ⌝ }
     ensures { λ r. ⌜ Kept (now (table .entry)) (now (places .entry)) (now (s .entry)) (now (s .exit)) (now (answers .entry)) (now (answers .exit)) ⌝ }
 {
-    match first_tests(&*table, &*places, ty, at, s, q) {
+    match test_whole(table, places, ty, at, s, q, whole) {
         First::No => false,
         First::Yes => true,
-        First::Open => { supports_or_recalls(&*table, &*places, ty, at, s, q, answers) }
+        First::Open => { supports_or_recalls(table, places, ty, at, s, q, answers, whole) }
     }
 }
 
-// Has a short list some places for each node of the usage at record q and each type that can be asked, up to ty? Nothing is promised,
-// since a short list and a long one give the same answers.
-fn asks_few(s: &[u8], q: usize, ty: u32) -> bool
-    requires { ⌜ q * 32 + 32 ≤ length (now s) ⌝ }
-{
-    if 8 < nodes(s, q) {
+// Has a short list some places for each of these nodes and each type that can be asked, up to ty? Nothing is promised, since a short
+// list and a long one give the same answers.
+fn asks_few(nodes: usize, ty: u32) -> bool {
+    if 8 < nodes {
         return false;
     }
     ty < 8
@@ -539,7 +415,7 @@ fn supports_with_few(table: &[u8], places: &[u32], ty: u32, at: u32, s: &mut [u8
     ensures { λ r. ⌜ Unchanged (now (s .entry)) (now (s .exit)) ⌝ }
 {
     let mut answers = [0u32; SHORT_WORDS];
-    supports_or_recalls(&*table, &*places, ty, at, s, q, &mut answers)
+    supports_or_recalls(table, places, ty, at, s, q, &mut answers, true)
 }
 
 fn supports_with_many(
@@ -557,7 +433,7 @@ fn supports_with_many(
     ensures { λ r. ⌜ Unchanged (now (s .entry)) (now (s .exit)) ⌝ }
 {
     let mut answers = [0u32; LONG_WORDS];
-    supports_or_recalls(&*table, &*places, ty, at, s, q, &mut answers)
+    supports_or_recalls(table, places, ty, at, s, q, &mut answers, true)
 }
 
 // Does the type support the usage at record q, at this offset? What its nodes remember of other questions is forgotten first.
@@ -573,18 +449,19 @@ pub fn supports_usage_at_offset(
     ensures { λ r. ⌜ Supports (now (table .entry)) (now (places .entry)) ty at (now (s .entry)) q r ⌝ }
     ensures { λ r. ⌜ Unchanged (now (s .entry)) (now (s .exit)) ⌝ }
 {
-    match first_tests(&*table, &*places, ty, at, s, q) {
+    match first_tests(table, places, ty, at, s, q) {
         First::No => false,
         First::Yes => true,
         First::Open => {
-            if !forget(s, q) {
+            let seen = forget(s, q);
+            if !seen.in_turns {
                 let mut answers = [0u32; 1];
-                return supports_or_recalls(&*table, &*places, ty, at, s, q, &mut answers);
+                return supports_or_recalls(table, places, ty, at, s, q, &mut answers, true);
             }
-            if asks_few(s, q, ty) {
-                return supports_with_few(&*table, &*places, ty, at, s, q);
+            if asks_few(seen.nodes, ty) {
+                return supports_with_few(table, places, ty, at, s, q);
             }
-            supports_with_many(&*table, &*places, ty, at, s, q)
+            supports_with_many(table, places, ty, at, s, q)
         }
     }
 }
@@ -606,7 +483,7 @@ pub fn ask(table: &[u8], places: &[u32], ty: u32, at: u32, s: &mut [u8], q: usiz
         TypeLayout::Handle => Asked::Handle,
         TypeLayout::Failed => Asked::Failed,
         TypeLayout::Concrete { .. } => {
-            if supports_usage_at_offset(&*table, &*places, ty, at, s, q) {
+            if supports_usage_at_offset(table, places, ty, at, s, q) {
                 return Asked::Yes;
             }
             Asked::No

@@ -2,7 +2,7 @@
 -- Assumes nothing.
 use borrow.Author.Needs.{needs}
 use Rattle.support.proofs.Asking.{handle-answers, failed-answers, yes-answers, no-answers}
-use Rattle.support.proofs.Staying.{unchanged-none}
+use Rattle.support_memory.proofs.Staying.{unchanged-none}
 use Rattle.support.proofs.ask.Statement.{statement}
 use Rattle.support.proofs.ask.Tie as tie
 

@@ -1,7 +1,6 @@
 -- Each answer is the first of the rules that the tests before it leave, and what is left is said by the last ones.
 -- Assumes nothing.
 use borrow.Author.Needs.{needs}
-use Rattle.support.proofs.Roots.{room}
 use Rattle.support.proofs.Rules.{not-concrete, unused-supported, leaf-supported, large-refused, left-open}
 use Rattle.support.proofs.first_tests.Statement.{statement}
 use Rattle.support.proofs.first_tests.Tie as tie
@@ -19,19 +18,19 @@ enum-known-size : tie.Need-enum-known-size
 enum-known-size c = search needs
 
 command-requires : tie.Need-command-requires
-command-requires c κs = search (room, needs)
+command-requires c κs = search needs
 
 returns : tie.Need-returns
 returns c = record { is = search (unused-supported, needs) }
 
 is-whole-leaf-requires : tie.Need-is-whole-leaf-requires
-is-whole-leaf-requires c κs = search (room, needs)
+is-whole-leaf-requires c κs = search needs
 
 returns-2 : tie.Need-returns-2
 returns-2 c = record { is = search (leaf-supported, needs) }
 
 max-size-requires : tie.Need-max-size-requires
-max-size-requires c κs = search (room, needs)
+max-size-requires c κs = search needs
 
 too-large-requires : tie.Need-too-large-requires
 too-large-requires c κs = search needs

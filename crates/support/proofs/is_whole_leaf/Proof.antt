@@ -16,13 +16,13 @@ argument-requires : tie.Need-argument-requires
 argument-requires c κs = search needs
 
 returns-2 : tie.Need-returns-2
-returns-2 c = leaf-type (c .before .before .before .if1 .left) (c .before .before .command .ensures) (omega arith) (omega arith) (c .argument .ensures)
+returns-2 c = leaf-type (c .before .before .before .if1 .left) (c .before .before .command .ensures .0) (omega arith) (omega arith) (c .argument .ensures)
 
 argument-requires-2 : tie.Need-argument-requires-2
 argument-requires-2 c κs = search needs
 
 returns-3 : tie.Need-returns-3
-returns-3 c = leaf-type (c .before .before .before .before .if1 .left) (c .before .before .before .command .ensures) (omega arith) (omega arith) (c .argument2 .ensures)
+returns-3 c = leaf-type (c .before .before .before .before .if1 .left) (c .before .before .before .command .ensures .0) (omega arith) (omega arith) (c .argument2 .ensures)
 
 returns-4 : tie.Need-returns-4
 returns-4 c = search (no-leaf, needs)

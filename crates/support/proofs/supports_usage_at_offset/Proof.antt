@@ -3,17 +3,19 @@
 use borrow.Author.Needs.{needs}
 use Rattle.support.specs.Known.{Askable}
 use Rattle.support.specs.Memory.{LeftOpen}
-use Rattle.support.proofs.Roots.{room}
 use Rattle.support.proofs.Rules.{first-no, first-yes, first-open}
-use Rattle.support.proofs.Staying.{unchanged-none, unchanged-both, supports-before, open-after, asks-after}
+use Rattle.support_memory.proofs.Staying.{unchanged-none, unchanged-both}
+use Rattle.support.proofs.Staying.{supports-before, open-after, asks-after}
 use Rattle.support.proofs.Remembering.{blank-memory}
+use Rattle.support.proofs.Types.{asks-concrete}
+use Rattle.support.proofs.Whole.{whole-says}
 use Rattle.support.proofs.supports_usage_at_offset.Statement.{statement}
 use Rattle.support.proofs.supports_usage_at_offset.Tie as tie
 
 -- the question, of records that have forgotten
 
 asks : (c : tie.After-slice-known2) → (let a = c .before .before .before .before .before .before .before .before .before .before .before .args in Askable (a .table .now) (a .places .now) (a .ty) (c .before .before .forget .last .0) (a .q))
-asks c = asks-after (c .before .before .forget .ensures .records) (search needs) (c .before .before .before .before .before .before .before .before .before .before .before .pre)
+asks c = asks-after (c .before .before .forget .ensures .records) (c .before .before .before .before .before .before .before .before .before .before .before .pre)
 
 left : (c : tie.After-slice-known2) → (let a = c .before .before .before .before .before .before .before .before .before .before .before .args in LeftOpen (a .table .now) (a .places .now) (a .ty) (a .at) (c .before .before .forget .last .0) (a .q))
 left c = open-after (c .before .before .forget .ensures .records) (first-open (c .before .before .before .before .before .before .first-tests .ensures) (c .before .before .before .before .enum-told3 .given .1))
@@ -37,16 +39,16 @@ slice-aggregate-supports-or-recalls : tie.Need-slice-aggregate-supports-or-recal
 slice-aggregate-supports-or-recalls c = search needs
 
 supports-or-recalls-requires : tie.Need-supports-or-recalls-requires
-supports-or-recalls-requires c κs = (asks (c .before .before .before), (blank-memory 1 (c .before .before .before .before .before .forget .ensures .blank), left (c .before .before .before)))
+supports-or-recalls-requires c κs = let o = left (c .before .before .before .before) in (asks-concrete (asks (c .before .before .before .before)) (o .components), (blank-memory 1 (c .before .before .before .before .before .before .forget .ensures .blank), λ e. o))
 
 same-length : tie.Need-same-length
 same-length c = search needs
 
 returns : tie.Need-returns
-returns c = let G = c .before .before .before .before .before .before .before .before .before .forget .ensures in let told = c .before .before .before .supports-or-recalls .ensures in (supports-before (G .records) (told .0), unchanged-both (G .records) (told .1 .records))
+returns c = let G = c .before .before .before .before .before .before .before .before .before .before .forget .ensures in let told = c .before .before .before .supports-or-recalls .ensures in (supports-before (G .records) (whole-says (told .0)), unchanged-both (G .records) (told .1 .records))
 
 asks-few-requires : tie.Need-asks-few-requires
-asks-few-requires c κs = room (asks (c .before .before) .usage)
+asks-few-requires c κs = search needs
 
 supports-with-few-requires : tie.Need-supports-with-few-requires
 supports-with-few-requires c κs = (asks (c .before .before .before .before .before), (c .before .before .before .before .before .before .before .forget .ensures .blank, left (c .before .before .before .before .before)))

@@ -2,6 +2,8 @@
 -- Assumes nothing.
 use borrow.Author.Needs.{needs}
 use Rattle.support.proofs.Remembering.{blank-memory}
+use Rattle.support.proofs.Whole.{whole-says}
+use Rattle.support.proofs.Types.{asks-concrete}
 use Rattle.support.proofs.supports_with_few.Statement.{statement}
 use Rattle.support.proofs.supports_with_few.Tie as tie
 
@@ -9,13 +11,13 @@ slice-aggregate-supports-or-recalls : tie.Need-slice-aggregate-supports-or-recal
 slice-aggregate-supports-or-recalls c = search needs
 
 supports-or-recalls-requires : tie.Need-supports-or-recalls-requires
-supports-or-recalls-requires c κs = let p = c .before .before .before .before .before .pre in (p .0, (blank-memory 512 (p .1 .0), p .1 .1))
+supports-or-recalls-requires c κs = let p = c .before .before .before .before .before .pre in (asks-concrete (p .0) (p .1 .1 .components), (blank-memory 512 (p .1 .0), λ e. p .1 .1))
 
 same-length : tie.Need-same-length
 same-length c = search needs
 
 returns : tie.Need-returns
-returns c = let told = c .before .before .before .supports-or-recalls .ensures in (told .0, told .1 .records)
+returns c = let told = c .before .before .before .supports-or-recalls .ensures in (whole-says (told .0), told .1 .records)
 
 pub supports-with-few-spec : {M : Type 1} → statement M
 supports-with-few-spec =

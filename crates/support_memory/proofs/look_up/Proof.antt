@@ -3,9 +3,9 @@
 use mathlib.Core.Bool.{true, false}
 use native.Mathlib.Omega.{arith}
 use borrow.Author.Needs.{needs}
-use Rattle.support.proofs.Marking.{listed}
-use Rattle.support.proofs.look_up.Statement.{statement}
-use Rattle.support.proofs.look_up.Tie as tie
+use Rattle.support_memory.proofs.Marking.{listed}
+use Rattle.support_memory.proofs.look_up.Statement.{statement}
+use Rattle.support_memory.proofs.look_up.Tie as tie
 
 returns : tie.Need-returns
 returns c = search needs

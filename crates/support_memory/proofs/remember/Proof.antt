@@ -1,9 +1,9 @@
 -- The node's words are written, and two of the list.
 -- Assumes nothing.
 use borrow.Author.Needs.{needs}
-use Rattle.support.proofs.Marking.{remembers}
-use Rattle.support.proofs.remember.Statement.{statement}
-use Rattle.support.proofs.remember.Tie as tie
+use Rattle.support_memory.proofs.Marking.{remembers}
+use Rattle.support_memory.proofs.remember.Statement.{statement}
+use Rattle.support_memory.proofs.remember.Tie as tie
 
 tag-of-requires : tie.Need-tag-of-requires
 tag-of-requires c κs = search needs

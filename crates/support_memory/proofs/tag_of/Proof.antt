@@ -2,8 +2,8 @@
 -- Assumes nothing.
 use borrow.Author.Needs.{needs}
 use mathlib.Core.Path.{refl}
-use Rattle.support.proofs.tag_of.Statement.{statement}
-use Rattle.support.proofs.tag_of.Tie as tie
+use Rattle.support_memory.proofs.tag_of.Statement.{statement}
+use Rattle.support_memory.proofs.tag_of.Tie as tie
 
 mul-result : tie.Need-mul-result
 mul-result c = search needs

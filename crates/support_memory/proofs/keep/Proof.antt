@@ -5,9 +5,9 @@ use mathlib.Core.Path.{refl}
 use native.Mathlib.Omega.{arith}
 use borrow.Author.Needs.{needs}
 use lib.ListN.{length-set}
-use Rattle.support.proofs.Marking.{keeps-nothing, keeps-one}
-use Rattle.support.proofs.keep.Statement.{statement}
-use Rattle.support.proofs.keep.Tie as tie
+use Rattle.support_memory.proofs.Marking.{keeps-nothing, keeps-one}
+use Rattle.support_memory.proofs.keep.Statement.{statement}
+use Rattle.support_memory.proofs.keep.Tie as tie
 
 returns : tie.Need-returns
 returns c = search (keeps-nothing, needs)

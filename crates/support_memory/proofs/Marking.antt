@@ -1,6 +1,6 @@
 -- The words that are read and written for what is remembered, by the nodes and in a list.
 -- Assumes nothing.
-use Prim.Native.Nat.{ℕ, _+_, _*_, _/_, _≤_, _<_}
+use Prim.Native.Nat.{ℕ, _+_, _*_, _/_, _<_}
 use mathlib.Core.Path.{_≡_, refl, sym, ap, _∙_}
 use mathlib.Core.Bool.{Bool, true, false}
 use mathlib.Core.List.{List}
@@ -9,23 +9,10 @@ use native.Mathlib.Omega.{arith}
 use native.Mathlib.Decide.{ℕ-discrete}
 use lib.ListN.{length, getD, set}
 use lib.Seq.{getD-set-same, getD-set-other, lt-length-set}
-use Rattle.definitions.proofs.Earlier.{accepted}
-use Rattle.definitions.proofs.Nodes.{some-node}
-use Rattle.records.specs.Records.{countIn, tagIn, pastIn, Marked}
-use Rattle.support.specs.Known.{Stands, TypeKnown, Unchanged}
-use Rattle.support.specs.Memory.{tagOf, In, looksUp, LooksUp, recollects, Recollects, Keeps, Remembers, Forgotten}
-use Rattle.support.specs.declared.Recalled.{Recalled}
-use Rattle.support.specs.declared.Recalled.the-variants.{Nothing, No, Yes}
-use Rattle.support.proofs.Roots.{count-is}
-use Rattle.support.proofs.Staying.{unchanged-none, unchanged-both, count-stays}
-
--- The numbers are small
-
-pub type-few : {table places : List ℕ} {ty : ℕ} → TypeKnown table places ty → ty < 1024
-type-few {table} w = omega (arith, w .below, accepted table (w .setting .table) (w .known .read) .few)
-
-pub node-few : {s : List ℕ} {q : ℕ} → Stands s q → q < 65536
-node-few w = omega (arith, w .few, some-node (w .usage))
+use Rattle.records.specs.Records.{tagIn, pastIn, Marked}
+use Rattle.support_memory.specs.Memory.{tagOf, In, looksUp, LooksUp, recollects, Recollects, Keeps, Remembers}
+use Rattle.support_memory.specs.declared.Recalled.{Recalled}
+use Rattle.support_memory.specs.declared.Recalled.the-variants.{Nothing, No, Yes}
 
 -- A tag is of one number and one answer
 
@@ -87,34 +74,3 @@ module _ {ty at : ℕ} {s : List ℕ} {q : ℕ} {d : List ℕ} where
 
 pub remembers : {ty at : ℕ} {s s′ : List ℕ} {q : ℕ} {d d′ : List ℕ} {b : Bool} {t : ℕ} → t ≡ tagOf ty b → Marked s s′ q t at → Keeps d d′ ty at q b → Remembers ty at s s′ q d d′ b
 remembers e m k = record { node = rw e at m; list = k }
-
--- Forgetting: the nodes up to i have no tag
-
-pub record Cleared (s s′ : List ℕ) (q i : ℕ) : Type 0 where
-  pub records : Unchanged s s′
-  pub long : length s′ ≡ length s
-  pub from : q ≤ i
-  pub tags : (j : ℕ) → q ≤ j → j < i → tagIn s′ j ≡ 0
-
-pub cleared-none : {s : List ℕ} {q : ℕ} → Cleared s s q q
-cleared-none = record { records = unchanged-none; long = refl; from = omega arith; tags = λ j l m. absurd (omega arith) }
-
-pub cleared-one : {s s₁ s₂ : List ℕ} {q i : ℕ} → Cleared s s₁ q i → Marked s₁ s₂ i 0 0 → length s₂ ≡ length s₁ → Cleared s s₂ q (i + 1)
-cleared-one {i = i} C m l = record {
-  records = unchanged-both (C .records) (record { same = m .same });
-  long = l ∙ C .long;
-  from = omega (arith, C .from);
-  tags = λ j f g. elim (ℕ-discrete j i) [
-    | yes e ↦ rw e (m .tag)
-    | no ne ↦ m .tags j ne ∙ C .tags j f (omega arith)
-  ];
-}
-
-pub cleared-all : {s s′ : List ℕ} {q n i : ℕ} → n ≡ countIn s q → Cleared s s′ q i → q + n ≤ i → Forgotten s s′ q
-cleared-all {q = q} e C l = record {
-  records = C .records;
-  blank = record { tags = λ j f g. C .tags j f (omega (arith, count-stays (C .records) q)) };
-}
-
-pub room-within : {s s′ : List ℕ} {q n i : ℕ} → Stands s q → n ≡ countIn s q → Cleared s s′ q i → i < q + n → i * 32 + 32 ≤ length s′
-room-within {s} {q = q} w e C l = omega (arith, w .within, count-is (w .usage) s q (w .offset) (w .at), C .long)

@@ -2,9 +2,9 @@
 -- Assumes nothing.
 use mathlib.Core.Path.{_∙_}
 use borrow.Author.Needs.{needs}
-use Rattle.support.proofs.Marking.{recollects-no, recollects-yes, recollects-listed}
-use Rattle.support.proofs.recall.Statement.{statement}
-use Rattle.support.proofs.recall.Tie as tie
+use Rattle.support_memory.proofs.Marking.{recollects-no, recollects-yes, recollects-listed}
+use Rattle.support_memory.proofs.recall.Statement.{statement}
+use Rattle.support_memory.proofs.recall.Tie as tie
 
 past-requires : tie.Need-past-requires
 past-requires c κs = search needs

@@ -10,7 +10,7 @@ use Rattle.definitions.specs.Usage.{Size, fixed, dynamic}
 use Rattle.qptr.specs.Values.{sizeOf}
 use Rattle.qptr.specs.declared.MaxSize.{MaxSize}
 use Rattle.qptr.specs.declared.MaxSize.the-variants.{Fixed, Dynamic}
-use Rattle.support.specs.Answers.{isEmpty}
+use Rattle.support_memory.specs.Memory.{isEmpty}
 
 pub empty-unused : {x c : ℕ} (z : Size) → x ≡ c → x ≡ 0 → false ≡ isEmpty c z
 unfolding isEmpty

@@ -1,7 +1,7 @@
 -- `either` meets its contract by its first operand.
 -- Assumes nothing.
-use Rattle.support.proofs.either.Statement.{statement}
-use Rattle.support.proofs.either.Tie as tie
+use Rattle.support_memory.proofs.either.Statement.{statement}
+use Rattle.support_memory.proofs.either.Tie as tie
 
 returns : tie.Need-returns
 returns c = rw (c .if1 .taken)
