@@ -1,4 +1,4 @@
+pub mod Waits
 pub mod Pairs
 pub mod Loop
 pub mod Merging
-pub mod Sanity

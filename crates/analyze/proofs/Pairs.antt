@@ -1,12 +1,11 @@
--- A pair's part of the bytes holds the pair, and what the call makes of it stands where the pair stood: records move with the part, and back with it.
+-- What a pair that has been placed or merged gave: the definitions bound it, and only records of the pair's ranks have changed.
 -- Assumes nothing.
 use Prim.Native.Nat.{ℕ, zero, suc, _+_, _-_, _*_, _^_, _<_, _≤_}
-use mathlib.Core.Path.{_≡_, refl, ap, _∙_}
-use mathlib.Core.List.{List, _++_}
+use mathlib.Core.Path.{_≡_, refl}
+use mathlib.Core.List.{List}
 use native.Mathlib.Omega.{arith}
 use native.Mathlib.Nat.{mul-le-mul-right}
-use lib.ListN.{length, take, drop, length-append, length-drop}
-use lib.Seq.{length-take-le}
+use lib.ListN.{length}
 use Rattle.definitions.specs.Limits.{max32}
 use Rattle.definitions.specs.Usage.{Usage, nodes, nodesIn}
 use Rattle.definitions.specs.Table.{Setting}
@@ -15,16 +14,17 @@ use Rattle.definitions.specs.Sound.{Storable}
 use Rattle.definitions.specs.Inner.Pairs.{pairs}
 use Rattle.definitions.proofs.Bound.{Bounded, Within, Within.barred, Within.answer, place-within, mergeMem-within}
 use Rattle.definitions.proofs.Stored.{place-storable, mergeMem-storable}
-use Rattle.records.proofs.Parts.{same-part, same-back, same-below, same-above}
-use Rattle.records.proofs.Usages.{SameRun, same-at, at-move}
+use Rattle.links.proofs.Stands.{stands-le}
+use Rattle.links.proofs.Frames.{kept-trans, kept-widen}
 use Rattle.report.proofs.Emitting.{emitted-after}
-use Rattle.states.specs.Calls.{Two, Done}
-use Rattle.states.specs.Fingers.{Finger}
-use Rattle.states.specs.States.{Beyond, entries, element, joins, spare, act, Numbers, Pending, Gave, Took}
-use Rattle.states.specs.declared.State.{State}
-use Rattle.states.specs.declared.Outcome.{Outcome}
-use Rattle.states.proofs.Fingers.{finger-move}
-use Rattle.states.proofs.Framing.{outside-kept}
+use Rattle.place_states.specs.Calls.{Ground, Done, ground}
+use Rattle.place_states.specs.Beyond.{Beyond, entries, element, joins, spare, act}
+use Rattle.place_states.specs.States.{Pending}
+use Rattle.place_states.specs.Taking.{Gave, Took}
+use Rattle.place_states.specs.declared.State.{State}
+use Rattle.place_states.specs.declared.Outcome.{Outcome}
+use Rattle.place_states.proofs.Framing.{outside-kept}
+use Rattle.analyze.proofs.Waits.{outside-inside}
 
 -- What a pair gives, if it is not refused
 
@@ -62,95 +62,48 @@ spare-more (entries es) m n h = omega (arith, mul-le-mul-right (nodesIn es) h)
 spare-more (element z k) m n h = omega arith
 spare-more (joins z low mid high d) m n h = omega (arith, mul-le-mul-right (nodesIn mid) h)
 
--- The part that is lent to the call, and what stands once it is back
+-- where the pair's call begins
+abbrev pub pairGround : {setting : Setting} {goal : Result Usage} {g : Ground} {n : ℕ} {s rep : List ℕ} {a : ℕ} {st : State} → Pending setting goal g n s rep a st → Ground
+pairGround {s} {rep} {st} Q = ground s (Q .rank) (Q .c) (Q .e) rep (st .at)
 
-module _ {setting : Setting} {goal : Result Usage} {rep₀ : List ℕ} {base : ℕ} {s rep : List ℕ} {st : State} {total : ℕ} (x e k : ℕ) (Q : Pending setting goal rep₀ base s rep st total)
-    (N : Numbers st total) (len : length s ≡ total * 32) (ex : x ≡ st .x * 32) (ee : e ≡ (st .x + st .n + st .m) * 32) (ek : k ≡ e - x) where
-  within : st .x + st .n + st .m ≤ total
-  within = omega (arith, N .fits, N .high)
-
-  -- the first of the pair
-  first-part : SameRun s (st .x) (take k (drop x s)) 0 (st .n)
-  first-part i lt = same-at s (take k (drop x s)) (st .x + i) i (st .x + i) (0 + i) refl (omega arith) (same-part s x k (st .x) (st .n + st .m) i ex (omega arith) (omega arith))
-
-  pub finger-part : Finger (take k (drop x s)) 0 (st .n) (st .finger)
-  finger-part = finger-move s (take k (drop x s)) (st .x) 0 (st .n) (st .finger) first-part (Q .finger)
-
-  pub two-part : Two (length (setting .table)) (take k (drop x s)) (st .n) (st .m) (Q .t) (Q .u)
-  two-part =
-      let long : k ≡ (st .n + st .m) * 32 = omega arith in
-      let t-count : nodes (Q .t) ≡ st .n = Q .t-count in
-      let u-count : nodes (Q .u) ≡ st .m = Q .u-count in
+module _ {setting : Setting} {goal : Result Usage} {g : Ground} {n : ℕ} {s rep : List ℕ} {a : ℕ} {st : State} (Q : Pending setting goal g n s rep a st) (s₂ rep₂ : List ℕ) (r : Outcome)
+    (d-fits : st .d ≤ max32) where
+  pub gave : (z : Result Usage) → act setting (st .todo) (st .d) (Q .t) (Q .u) ≡ z → Done z (pairGround Q) s₂ (r .refusal) (r .node) (r .pairings) rep₂ (r .at)
+      → Gave (length (setting .table)) (Q .y) (Q .o) (Q .w) (Q .p) g n z s₂ rep₂ a st r
+  gave (refused i) is D = D
+  gave (done v w p) is D =
+      let G = act-gives setting (length (setting .table)) (st .todo) (st .d) (Q .t) (Q .u) d-fits (Q .two .left-fits) (Q .two .right-fits) is in
+      let I = outside-inside (length (setting .table)) (Q .y) s a st (Q .rank) (g .lo) (Q .c) (Q .e) (g .hi) (Q .outside) in
       record {
-        len = length-take-le k (drop x s) (omega (arith, within, length-drop x s)) ∙ long;
-        left-nodes = t-count;
-        right-nodes = u-count;
-        left-offset = Q .t-offset;
-        left = at-move (Q .t) s (take k (drop x s)) (st .x) 0 (Q .t-offset) (λ i lt. first-part i (omega arith)) (Q .t-stands);
-        right-offset = Q .u-offset;
-        right = at-move (Q .u) s (take k (drop x s)) (st .x + st .n) (st .n) (Q .u-offset) (λ i lt.
-            same-at s (take k (drop x s)) (st .x + (st .n + i)) (st .n + i) (st .x + st .n + i) (st .n + i) (omega arith) refl
-            (same-part s x k (st .x) (st .n + st .m) (st .n + i) ex (omega arith) (omega arith))) (Q .u-stands);
-        left-fits = Q .t-fits;
-        right-fits = Q .u-fits;
+        answered = D .answered;
+        rank = D .rank;
+        kept = kept-trans (g .bytes) s s₂ (g .rank) (Q .rank) (D .rank) (g .lo) (g .hi) (Q .kept) (kept-widen s s₂ (Q .rank) (D .rank) (Q .c) (Q .e) (g .lo) (g .hi) (I .0) (I .1) (D .kept));
+        c = Q .c;
+        e = Q .e;
+        stands = D .stands;
+        fits = G .fits;
+        within = omega (arith, Q .within, G .few-nodes);
+        few = omega (arith, Q .few, G .few-nodes);
+        pairs = D .pairs;
+        short = G .short;
+        room = omega (arith, Q .room, G .paid, spare-more (Q .y) (nodes v) (nodes (Q .t) + nodes (Q .u)) (G .few-nodes));
+        report = emitted-after (Q .report) (D .report);
+        outside = outside-kept (length (setting .table)) (Q .y) s s₂ a st (Q .rank) (D .rank) (g .lo) (Q .c) (Q .e) (g .hi) (omega (arith, stands-le (Q .t) s (st .x) (Q .rank) (Q .c) (Q .m) (Q .two .left), stands-le (Q .u) s (st .m) (Q .rank) (Q .m) (Q .e) (Q .two .right))) (D .kept) (Q .outside);
       }
 
-  module _ (y s₂ rep′ : List ℕ) (r : Outcome) (ly : length y ≡ length (take k (drop x s))) (back : s₂ ≡ take x s ++ (y ++ drop k (drop x s))) (few : r .nodes ≤ st .n + st .m)
-      (near : base < 2 ^ 63) (d-fits : st .d ≤ max32) (F : r .refusal ≡ 0 → Finger y 0 (r .nodes) (r .finger)) where
-    long : length y ≡ (st .n + st .m) * 32
-    long = ly ∙ two-part .len
-
-    part-back : SameRun y 0 s₂ (st .x) (r .nodes)
-    part-back i lt =
-        same-at y s₂ i (st .x + i) (0 + i) (st .x + i) (omega arith) refl
-        (rw back (same-back s y x k (st .x) (st .n + st .m) i ex (omega (arith, within)) (omega (arith, long)) (omega arith)))
-
-    gave : (z : Result Usage) → act setting (st .todo) (st .d) (Q .t) (Q .u) ≡ z → Done z y (r .refusal) (r .nodes) (r .pairings) rep (st .at) rep′ (r .at)
-        → Gave (length (setting .table)) (Q .y) (Q .o) (Q .w) (Q .p) rep₀ base z s₂ rep′ st r
-    gave (refused n) is D = D
-    gave (done v w p) is D =
-        let count : nodes v ≡ r .nodes = D .count in
-        let G = act-gives setting (length (setting .table)) (st .todo) (st .d) (Q .t) (Q .u) d-fits (Q .t-fits) (Q .u-fits) is in
-        record {
-          answered = D .answered;
-          offset = D .offset;
-          stands = at-move v y s₂ 0 (st .x) (D .offset) (λ i lt. part-back i (omega arith)) (D .stands);
-          count = count;
-          fits = G .fits;
-          pairs = D .pairs;
-          short = G .short;
-          room = omega (arith, Q .room, G .paid, spare-more (Q .y) (nodes v) (nodes (Q .t) + nodes (Q .u)) (G .few-nodes));
-          report = emitted-after (Q .report) (D .report);
-          finger = finger-move y s₂ 0 (st .x) (r .nodes) (r .finger) part-back (F (D .answered));
-        }
-
-    pub took : Done (act setting (st .todo) (st .d) (Q .t) (Q .u)) y (r .refusal) (r .nodes) (r .pairings) rep (st .at) rep′ (r .at)
-        → Took setting goal rep₀ base s₂ rep′ st r total
-    took D =
-        let cut : k ≡ (st .n + st .m) * 32 = omega arith in
-        record {
-          y = Q .y;
-          o = Q .o;
-          w = Q .w;
-          p = Q .p;
-          x = act setting (st .todo) (st .d) (Q .t) (Q .u);
-          comes = Q .comes;
-          gave = gave (act setting (st .todo) (st .d) (Q .t) (Q .u)) refl D;
-          pairs = Q .pairs;
-          few = Q .few;
-          near = near;
-          based = Q .based;
-          mark = Q .mark;
-          at-was = Q .report .place;
-          outside = outside-kept (length (setting .table)) (Q .y) s s₂ st (st .n + st .m) total
-              (λ i lt. rw back (same-below s y x k (st .x) i ex (omega (arith, within)) lt))
-              (λ i le. rw back (same-above s y x k (st .x) (st .n + st .m) i ex (omega (arith, within)) cut long le))
-              (omega (arith, N .fits)) (Q .outside);
-        }
-
-    pub len-back : length s₂ ≡ total * 32
-    len-back =
-        let inside : st .x + st .n + st .m ≤ total = within in
-        let cut : length (take k (drop x s)) ≡ k = length-take-le k (drop x s) (omega (arith, length-drop x s)) in
-        ap length back ∙ length-append (take x s) (y ++ drop k (drop x s))
-        ∙ omega (arith, length-take-le x s (omega arith), length-append y (drop k (drop x s)), length-drop k (drop x s), length-drop x s)
+  pub took : g .base < 2 ^ 63 → Done (act setting (st .todo) (st .d) (Q .t) (Q .u)) (pairGround Q) s₂ (r .refusal) (r .node) (r .pairings) rep₂ (r .at) → Took setting goal g n s₂ rep₂ a st r
+  took near D = record {
+    y = Q .y;
+    o = Q .o;
+    w = Q .w;
+    p = Q .p;
+    x = act setting (st .todo) (st .d) (Q .t) (Q .u);
+    comes = Q .comes;
+    gave = gave (act setting (st .todo) (st .d) (Q .t) (Q .u)) refl D;
+    pairs = Q .pairs;
+    brief = Q .brief;
+    near = near;
+    based = Q .based;
+    mark = Q .mark;
+    at-was = Q .report .place;
+  }

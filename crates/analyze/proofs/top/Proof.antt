@@ -18,7 +18,7 @@ of-requires : tie.Need-of-requires
 of-requires c κs = search needs
 
 returns : tie.Need-returns
-returns c = record { part = c .of .ensures ∙ rw (c .before .max-size .ensures, c .before .before .command .ensures) }
+returns c = record { part = c .of .ensures ∙ rw (c .before .max-size .ensures, c .before .before .command .ensures .0) }
 
 pub top-spec : {M : Type 1} → statement M
 top-spec = tie.close (tie.spec command-requires cast-of max-size-requires of-requires returns)

@@ -1,7 +1,0 @@
-pub mod Tests
-pub mod Elements
-pub mod Strides
-pub mod Pairing
-pub mod Choosing
-pub mod Resizing
-pub mod Wrapping

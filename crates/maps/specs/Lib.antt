@@ -1,4 +1,0 @@
-pub mod Numbers
-pub mod Runs
-pub mod Search
-pub mod Joining

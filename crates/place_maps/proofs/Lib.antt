@@ -1,0 +1,14 @@
+pub mod Entries
+pub mod Deciding
+pub mod Downward
+pub mod Inserting
+pub mod Overlaps
+pub mod Turning
+pub mod Restoring
+pub mod Roots
+pub mod Linking
+pub mod Stepping
+pub mod Receiving
+pub mod Ending
+pub mod Turns
+pub mod Beginning

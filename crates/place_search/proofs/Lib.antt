@@ -1,0 +1,14 @@
+pub mod Marking
+pub mod Rowing
+pub mod Linking
+pub mod Skipping
+pub mod Searching
+pub mod Filling
+pub mod Pasts
+pub mod Parting
+pub mod Elem
+pub mod Fronts
+pub mod Tops
+pub mod CallEndsBy
+pub mod CallTop
+pub mod Lending

@@ -1,0 +1,5 @@
+pub mod Numbers
+pub mod Table
+pub mod Parts
+pub mod Seeking
+pub mod Cutting

@@ -1,5 +1,0 @@
-pub mod Table
-pub mod Runs
-pub mod Numbers
-pub mod Filling
-pub mod Parts
