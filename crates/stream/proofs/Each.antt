@@ -1,20 +1,19 @@
--- Entries in any order are read one after the other, so their counts add up, and the order of a map's entries is one test at the end.
+-- Entries in any order are read one after the other, so their counts add up. Entries in order are such entries.
 -- Assumes nothing.
 use Prim.Native.Nat.{ℕ, zero, suc, _+_, _*_, _<_}
 use mathlib.Core.Path.{_≡_, refl, sym, _∙_}
-use mathlib.Core.Bool.{Bool, true, false}
 use mathlib.Core.List.{List}
 use native.Mathlib.Omega.{arith}
 use native.Mathlib.Nat.{zero-add}
 use lib.Dec.{ltb}
 use lib.ListN.{length}
 use Rattle.definitions.specs.If.{if_then_else_}
-use Rattle.definitions.specs.Usage.{Entries, entry, _<+>_}
-use Rattle.definitions.specs.Stream.{Read, broken, read, _then_, number, readEntries, readNode}
+use Rattle.definitions.specs.Usage.{Entries, _<+>_}
+use Rattle.definitions.specs.Stream.{broken, read, _then_, number, readEntries, readNode}
 use Rattle.definitions.proofs.ReadFuel.{node-takes}
-use Rattle.stream.specs.Walk.{each, climbs}
+use Rattle.stream.specs.Walk.{each}
 use Rattle.stream.proofs.Places.{number-takes}
-use Rattle.stream.proofs.Then.{then-read, then-same, then-then, then-broken, none-then, if-then}
+use Rattle.stream.proofs.Then.{then-read, then-then, then-broken, then-reads, else-reads}
 
 pub each-short : (k : ℕ) (bs : List ℕ) → length bs < 4 * k → each k bs ≡ broken
 unfolding each
@@ -37,27 +36,11 @@ each-more (suc n) k bs =
     (then-then (each n bs₂) _ _ (λ es bs₃. refl)
     ∙ sym (then-then (each n bs₂) _ _ λ es bs₃. then-then (each k bs₃) _ _ λ fs rest. refl))))
 
--- so many entries, and the test that their offsets ascend from p on
-abbrev sorted : ℕ → ℕ → List ℕ → Read Entries
-sorted k p bs = each k bs then λ es rest. if climbs p es then read es rest else broken
-
--- one entry: t says that its offset is too low, and those above it are read in order
-module _ (o k : ℕ) (above : (bs : List ℕ) → readEntries readNode k (suc o) bs ≡ sorted k (suc o) bs) where
-  entry-each : (t : Bool) (bs : List ℕ)
-      → (if t then broken else readNode bs then λ u bs₁. readEntries readNode k (suc o) bs₁ then λ es rest. read (entry o u es) rest)
-      ≡ readNode bs then λ u bs₁. each k bs₁ then λ es rest. if (if t then false else climbs (suc o) es) then read (entry o u es) rest else broken
-  unfolding if_then_else_
-  entry-each true bs = sym (then-broken (node-takes bs) λ u bs₁ _. none-then (each k bs₁))
-  entry-each false bs =
-      then-same (readNode bs) λ u bs₁.
-      rw (above bs₁)
-      (then-then (each k bs₁) _ _ λ es rest. if-then (climbs (suc o) es) (read es rest) _)
-
-pub entries-each : (k p : ℕ) (bs : List ℕ) → readEntries readNode k p bs ≡ sorted k p bs
-unfolding each if_then_else_
-entries-each zero p bs = refl
-entries-each (suc k) p bs =
-    sym
-    (then-then (number 4 bs) _ _ λ o bs₁.
-    then-then (readNode bs₁) _ _ (λ u bs₂. then-then (each k bs₂) _ _ λ es rest. refl)
-    ∙ sym (entry-each o k (λ bs₂. entries-each k (suc o) bs₂) (ltb o p) bs₁))
+pub entries-loose : (k p : ℕ) (bs : List ℕ) {es : Entries} {rest : List ℕ} → readEntries readNode k p bs ≡ read es rest → each k bs ≡ read es rest
+unfolding each
+entries-loose zero p bs e = e
+entries-loose (suc k) p bs e =
+    let a = then-reads (number 4 bs) e in
+    let b = then-reads (readNode (a .1)) (else-reads (ltb (a .0) p) (a .3)) in
+    let d = then-reads (readEntries readNode k (suc (a .0)) (b .1)) (b .3) in
+    rw (a .2, b .2, entries-loose k (suc (a .0)) (b .1) (d .2)) (d .3)

@@ -12,8 +12,8 @@ use Rattle.definitions.specs.If.{if_then_else_}
 use Rattle.definitions.specs.Usage.{nodes, nodesOf, allNodes, buffer, memory, topNodes}
 use Rattle.definitions.specs.Command.{argumentWidth}
 use Rattle.definitions.specs.Stream.{read, _then_, number, readNode, readNodes, readCounted, whole, memoryOf, topOf, listOf}
-use Rattle.records.specs.Words.{numberAt}
-use Rattle.records.proofs.Numbers.{number-at, number-short}
+use Rattle.numbers.specs.Words.{numberAt}
+use Rattle.numbers.proofs.Numbers.{number-at, number-short}
 use Rattle.stream.specs.Found.{typeBound, topBound, boundOf, allBound, opaqueOf, told}
 use Rattle.stream.proofs.Then.{then-then}
 use Rattle.stream.proofs.Wholes.{told-made}

@@ -6,9 +6,11 @@ pub mod Deciding
 pub mod Each
 pub mod Owing
 pub mod Stepping
-pub mod Going
 pub mod Skipping
-pub mod Climbing
+pub mod Settling
+pub mod Keeping
+pub mod Following
+pub mod Entering
 pub mod Counting
 pub mod Wholes
 pub mod Firsts

@@ -1,27 +1,30 @@
 -- An own part at a place of the bytes is read piece by piece, in the widths of its command's row, and is broken where a piece is. Its
 -- command, its argument and its end do not hang on its size: that only says whether it is read.
 -- Assumes nothing.
-use Prim.Native.Nat.{ℕ, _+_, _-_, _≤_, _<_}
+use Prim.Native.Nat.{ℕ, zero, suc, _+_, _-_, _^_, _≤_, _<_}
 use mathlib.Core.Path.{_≡_, refl, sym, ap, _∙_}
-use mathlib.Core.List.{List}
-use native.Mathlib.Decide.{decLt}
+use mathlib.Core.List.{List, [], _∷_}
+use native.Mathlib.Decide.{decLt, ℕ-discrete}
 use native.Mathlib.Omega.{arith}
-use borrow.Author.Tests.{lt-ltb}
+use borrow.Author.Tests.{lt-ltb, eq-eqb, ne-eqb}
 use lib.ListN.{length, getD, drop, length-drop}
-use lib.Seq.{drop-length}
+use lib.Seq.{drop-length, getD-drop}
 use Rattle.definitions.specs.If.{if_then_else_}
 use Rattle.definitions.specs.Usage.{Size, dynamic}
 use Rattle.definitions.specs.Command.{Head, commandAt, sizeWidth, argumentWidth}
 use Rattle.definitions.specs.Stream.{broken, read, _then_, number, readSize}
 use Rattle.definitions.proofs.Choice.{either}
-use Rattle.definitions.proofs.Reading.{Reads, stops, gives, reads-any, reads-then, reads-is, then-agree}
+use Rattle.definitions.proofs.Numbers.{number-whence}
+use Rattle.definitions.proofs.Written.{Bytes}
+use Rattle.definitions.proofs.Reading.{Reads, stops, gives, reads-any, reads-map, reads-then, reads-is, then-agree}
 use Rattle.qptr.specs.Values.{rowOf, partOf, partBy}
 use Rattle.qptr.specs.declared.Command.{Command}
 use Rattle.qptr.specs.declared.Node.{Node}
 use Rattle.qptr.proofs.Nodes.{part-is}
-use Rattle.records.specs.Words.{numberAt}
-use Rattle.records.proofs.Numbers.{number-at, number-short}
+use Rattle.numbers.specs.Words.{numberAt}
+use Rattle.numbers.proofs.Numbers.{number-at, number-short}
 use Rattle.stream.specs.Head.{own, head, OutlineAt}
+use Rattle.stream.specs.Walk.{entriesOf}
 use Rattle.stream.proofs.Places.{byte-at, size-short, size-end}
 use Rattle.stream.proofs.Then.{then-broken}
 
@@ -108,3 +111,33 @@ outline-same {s} {at} {node} {end} part h rest e =
     reads-is
     (reads-then (reads-any (readSize (sizeWidth (node .command)) (drop (at + 1) s))) λ z left _. own-told (node .command) z (node .argument) (drop end s))
     (sym (part .reads) ∙ e)
+
+-- A map has fewer than 65,536 entries, since their count has two bytes.
+
+size-left : (w : ℕ) (bs : List ℕ) → Bytes bs → Reads (λ z rest. Bytes rest) (readSize w bs)
+size-left zero bs h = stops
+size-left (suc w) [] h = stops
+size-left (suc w) (flag ∷ bs) h =
+    reads-then (number-whence w bs (λ i. h (suc i))) λ n rest v.
+    either (Reads _) _ (gives _ _ (v .left)) (either (Reads _) _ (either (Reads _) _ (gives _ _ (v .left)) stops) stops)
+
+entries-few : (h : Head) {c n : ℕ} → h .command ≡ c → h .argument ≡ n → n < 256 ^ argumentWidth c → entriesOf h < 65536
+unfolding entriesOf if_then_else_ commandAt
+entries-few h {c} command argument few =
+    elim (ℕ-discrete (h .command) 0x03) [
+      | yes is ↦
+          let map : c ≡ 0x03 = sym command ∙ is in
+          rw (eq-eqb (h .command) 0x03 is) (omega (arith, rw map at few))
+      | no not ↦ rw (ne-eqb (h .command) 0x03 not) (omega arith)
+    ]
+
+head-few : (bs : List ℕ) → Bytes bs → Reads (λ h rest. entriesOf h < 65536) (head bs)
+unfolding head
+head-few [] bytes = stops
+head-few (c ∷ bs) bytes =
+    reads-then (size-left (sizeWidth c) bs (λ i. bytes (suc i))) λ z bs₁ left.
+    reads-then (number-whence (argumentWidth c) bs₁ left) λ n rest v.
+    reads-map (own-told c z n rest) λ h r told. entries-few h (told .0) (told .1) (v .fits)
+
+pub count-few : (s : List ℕ) (at : ℕ) {h : Head} {rest : List ℕ} → Bytes s → head (drop at s) ≡ read h rest → entriesOf h < 65536
+count-few s at bytes e = reads-is (head-few (drop at s) (λ i. rw getD-drop (bytes (at + i)))) e

@@ -10,8 +10,8 @@ use lib.Seq.{drop-cons}
 use Rattle.definitions.specs.Stream.{broken, number, sizeFrom, readSize}
 use Rattle.definitions.proofs.Choice.{either}
 use Rattle.definitions.proofs.Reading.{Reads, stops, gives, reads-then}
-use Rattle.records.specs.Words.{numberAt}
-use Rattle.records.proofs.Numbers.{number-at, number-short}
+use Rattle.numbers.specs.Words.{numberAt}
+use Rattle.numbers.proofs.Numbers.{number-at, number-short}
 
 pub number-takes : (w : ℕ) (bs : List ℕ) → Reads (λ n rest. length bs ≡ w + length rest) (number w bs)
 number-takes zero bs = gives 0 bs (omega arith)

@@ -27,20 +27,16 @@ module _ {A : Type 0} where
   then-then broken f g on = refl
   then-then (read a rest) f g on = on a rest
 
-  -- a test on what was read
-  pub if-then : {B : Type 0} (t : Bool) (r : Read A) (f : A → List ℕ → Read B) → (if t then r else broken) then f ≡ (if t then r then f else broken)
-  unfolding if_then_else_
-  if-then true r f = refl
-  if-then false r f = refl
-
   pub then-broken : {B : Type 0} {P : A → List ℕ → Type 0} {r : Read A} {f : A → List ℕ → Read B} → Reads P r
       → ((a : A) (rest : List ℕ) → P a rest → f a rest ≡ broken) → r then f ≡ broken
   then-broken stops on = refl
   then-broken (gives a rest h) on = on a rest h
 
-  pub none-then : {B : Type 0} (r : Read A) → _≡_ {A = Read B} (r then λ a rest. broken) broken
-  none-then broken = refl
-  none-then (read a rest) = refl
+  -- a test that stops
+  pub else-reads : (t : Bool) {r : Read A} {a : A} {rest : List ℕ} → (if t then broken else r) ≡ read a rest → r ≡ read a rest
+  unfolding if_then_else_
+  else-reads true e = never e
+  else-reads false e = e
 
   pub then-reads : {B : Type 0} (r : Read A) {f : A → List ℕ → Read B} {b : B} {rest : List ℕ} → r then f ≡ read b rest
       → (a : A) × (mid : List ℕ) × (r ≡ read a mid) × (f a mid ≡ read b rest)

@@ -11,8 +11,8 @@ use Rattle.definitions.specs.Usage.{opaque}
 use Rattle.definitions.specs.Command.{argumentWidth}
 use Rattle.definitions.specs.Stream.{Read, broken, read, _then_, whole}
 use Rattle.definitions.proofs.Reading.{Reads, stops, gives}
-use Rattle.records.specs.Words.{numberAt}
-use Rattle.records.proofs.Numbers.{number-at}
+use Rattle.numbers.specs.Words.{numberAt}
+use Rattle.numbers.proofs.Numbers.{number-at}
 use Rattle.stream.specs.Found.{opaqueOf, told}
 use Rattle.stream.proofs.Places.{number-takes}
 

@@ -1,3 +1,4 @@
 pub mod Head
 pub mod Found
 pub mod Walk
+pub mod Window

@@ -1,21 +1,24 @@
-// Streams: which bytes are one. A stream may be longer and deeper than any stack, so nothing here recurses, and nothing is kept
-// for each level.
+// Streams: which bytes are one. A stream may be longer and deeper than any stack, so nothing here recurses. A window that is lent, of
+// any length, has room for some levels; what it holds before and afterwards does not matter.
 ghost use mathlib.Core.Path.{_≡_};
-ghost use Prim.Native.Nat.{ℕ, _+_, _-_, _≤_, _<_, max};
+ghost use Prim.Native.Nat.{ℕ, _+_, _-_, _*_, _≤_, _<_, max};
 ghost use lib.ListN.{length, getD, drop};
 ghost use Rattle.definitions.specs.Limits.{max32};
 ghost use Rattle.definitions.specs.Usage.{nodes, nodesOf, topNodes, allNodes};
 ghost use Rattle.definitions.specs.Stream.{readNode, readNodes, whole, topOf, memoryOf, listOf};
 ghost use Rattle.qptr.specs.Values.{partOf};
-ghost use Rattle.records.specs.Words.{Width};
-ghost use Rattle.stream.specs.Head.{Known, SizeShows, Shows, Outlines};
+ghost use Rattle.numbers.specs.Words.{Width};
+ghost use Rattle.stream.specs.Head.{Known, SizeShows, Shows, Outlines, PartAt};
 ghost use Rattle.stream.specs.Found.{typeBound, boundOf, topBound, allBound, opaqueOf, told, Spans};
-ghost use Rattle.stream.specs.Walk.{entriesOf, ownBound, Goes, Skips, Ascends, Orders};
+ghost use Rattle.stream.specs.Walk.{entriesOf, ownBound, Goes, Skips, Settles};
+ghost use Rattle.stream.specs.Window.{levels, Held, Pushed, Popped, Follows, Makes, Enters};
+use numbers::get32;
+use numbers::number;
+use numbers::put_number;
+use numbers::put32;
 use qptr::Command;
 use qptr::MaxSize;
 use qptr::Node;
-use records::get32;
-use records::number;
 
 const UNUSED: u8 = 0x00;
 
@@ -34,6 +37,9 @@ const BUFFER: u8 = 0x09;
 const MEMORY: u8 = 0x0A;
 
 const LIST: u8 = 0x0B;
+
+// The bytes of a level in a window: the entries left of a map but one, in two, and its last offset.
+const LEVEL: usize = 6;
 
 // What acceptance tells: the nodes of a stream, and one more than its largest type (0 for no type); or that the bytes are none.
 pub enum Found {
@@ -63,10 +69,26 @@ enum SizeAt {
     Broken,
 }
 
-// How a walk over nodes goes on: at the next node, with so many entries owed behind that one; or it has come to its end.
+// How a walk over nodes goes on behind an own part: at an array's element; at an entry, with so many owed behind that one; or it has
+// come to its end.
 enum Next {
-    Node { at: usize, owed: usize },
+    Element,
+    Entry(usize),
     End,
+    Broken,
+}
+
+// The maps around a place of which entries are left there, and whose order is still to be seen: how many are left of the innermost and
+// its last offset, and how many levels of a window are for those around it. None is left only if there is no such map.
+struct Maps {
+    left: u32,
+    last: u32,
+    outer: usize,
+}
+
+// The maps behind an offset; or that an offset is not above the one before it in its map.
+enum Order {
+    Kept(Maps),
     Broken,
 }
 
@@ -211,7 +233,7 @@ fn past(s: &[u8], node: Node, end: usize, owed: usize) -> Next
     ensures { λ r. ⌜ Goes (now (s .entry)) (partOf node) end owed r ⌝ }
 {
     if node.command == ARRAY {
-        return Next::Node { at: end, owed };
+        return Next::Element;
     }
     let owing = entries(node) as usize + owed;
     if owing == 0 {
@@ -220,10 +242,7 @@ fn past(s: &[u8], node: Node, end: usize, owed: usize) -> Next
     if (s.len() - end) / 4 < owing {
         return Next::Broken;
     }
-    Next::Node {
-        at: end + 4,
-        owed: owing - 1,
-    }
+    Next::Entry(owing - 1)
 }
 
 // Where the node at `from` ends, if it is one. The order of offsets is not looked at, nor are sizes and strides.
@@ -238,11 +257,11 @@ fn skip(s: &[u8], from: usize) -> Skipped
             return Skipped::Broken;
         };
         match past(s, node, end, owed) {
-            Next::Node {
-                at: next,
-                owed: owing,
-            } => {
-                at = next;
+            Next::Element => {
+                at = end;
+            }
+            Next::Entry(owing) => {
+                at = end + 4;
                 owed = owing;
             }
             Next::End => return Skipped::To(end),
@@ -251,49 +270,132 @@ fn skip(s: &[u8], from: usize) -> Skipped
     }
 }
 
-// Whether the offsets of the `count` entries from `from` on strictly ascend. The last entry is not stepped over, so a nest of
-// maps of one entry each is walked once. Where there are no such entries, the answer does not matter.
-fn ascending(s: &[u8], from: usize, count: u32) -> bool
-    requires { ⌜ from ≤ length (now s) ⌝ }
-    ensures { λ r. ⌜ Ascends count (drop from (now (s .entry))) r ⌝ }
+// The innermost map goes into the window, and another may take its place.
+fn push(maps: Maps, window: &mut [u8]) -> Maps
+    requires { ⌜ (maps .outer * 6 + 6 ≤ length (now window)) × (1 ≤ maps .left) × (maps .left ≤ 65536) ⌝ }
+    ensures { λ r. ⌜ Pushed maps (now (window .entry)) (now (window .exit)) r ⌝ }
 {
-    if count == 0 {
-        return true;
+    let at = maps.outer * LEVEL;
+    put_number(window, at, 2, maps.left - 1);
+    put32(window, at + 2, maps.last);
+    Maps {
+        left: 0,
+        last: 0,
+        outer: maps.outer + 1,
     }
-    if s.len() - from < 4 {
-        return false;
+}
+
+// The map of the uppermost of so many levels becomes the innermost.
+fn pop(outer: usize, window: &[u8]) -> Maps
+    requires { ⌜ outer * 6 ≤ length (now window) ⌝ }
+    ensures { λ r. ⌜ Popped outer (now (window .entry)) r ⌝ }
+{
+    if outer == 0 {
+        return Maps {
+            left: 0,
+            last: 0,
+            outer,
+        };
     }
+    let top = outer - 1;
+    let at = top * LEVEL;
+    Maps {
+        left: number(window, at, 2) + 1,
+        last: get32(window, at + 2),
+        outer: top,
+    }
+}
+
+// The maps behind the offset of the innermost one's next entry. A map goes with its last entry, so a nest whose deep entries come last
+// needs no window.
+fn follow(maps: Maps, offset: u32, window: &[u8]) -> Order
+    requires { ⌜ Held maps (now window) × (1 ≤ maps .left) ⌝ }
+    ensures { λ r. ⌜ Follows maps offset (now (window .entry)) r ⌝ }
+{
+    if offset <= maps.last {
+        return Order::Broken;
+    }
+    if maps.left == 1 {
+        return Order::Kept(pop(maps.outer, window));
+    }
+    Order::Kept(Maps {
+        left: maps.left - 1,
+        last: offset,
+        outer: maps.outer,
+    })
+}
+
+// Whether the offsets of all these maps ascend, from the node at `from` on to the end of the outermost. What lies further in is stepped
+// over. Where it is not a node, the answer does not matter.
+fn settled(s: &[u8], from: usize, maps: Maps, window: &[u8]) -> bool
+    requires { ⌜ Held maps (now window) × (from ≤ length (now s)) ⌝ }
+    ensures { λ r. ⌜ Settles (now (s .entry)) from (levels maps (now (window .entry))) r ⌝ }
+{
     let mut at = from;
-    let mut offset = get32(s, at);
-    let mut left = count;
-    while 1 < left {
-        let Skipped::To(next) = skip(s, at + 4) else {
+    let mut around = maps;
+    while 0 < around.left {
+        let Skipped::To(next) = skip(s, at) else {
             return false;
         };
         if s.len() - next < 4 {
             return false;
         }
-        let above = get32(s, next);
-        if above <= offset {
+        let Order::Kept(rest) = follow(around, get32(s, next), window) else {
             return false;
-        }
-        at = next;
-        offset = above;
-        left -= 1;
+        };
+        at = next + 4;
+        around = rest;
     }
     true
 }
 
-// Whether what a node opens is in order: the offsets of a map's entries ascend.
-fn ordered(s: &[u8], node: Node, end: usize) -> bool
-    requires { ⌜ end ≤ length (now s) ⌝ }
-    ensures { λ r. ⌜ Orders (partOf node) (drop end (now (s .entry))) r ⌝ }
+// Room for one more map, which begins at `at`. Where the window is full, all maps that it has are looked at in one go, and none is kept
+// any more: so that happens once for as many maps as there are levels, and not for each map.
+fn room(s: &[u8], at: usize, maps: Maps, window: &mut [u8]) -> Order
+    requires { ⌜ Held maps (now window) × (at ≤ length (now s)) ⌝ }
+    ensures { λ r. ⌜ Makes (now (s .entry)) at maps (now (window .entry)) (now (window .exit)) r ⌝ }
 {
-    if node.command == MAP {
-        ascending(s, end, node.argument)
-    } else {
-        true
+    if maps.left == 0 {
+        return Order::Kept(maps);
     }
+    if LEVEL <= window.len() - maps.outer * LEVEL {
+        return Order::Kept(push(maps, window));
+    }
+    if settled(s, at, maps, window) {
+        return Order::Kept(Maps {
+            left: 0,
+            last: 0,
+            outer: 0,
+        });
+    }
+    Order::Broken
+}
+
+// The maps behind the offset at `end`, of the next entry behind the own part at `at`: the first of a map that this own part opens, else
+// the next of the innermost map. Of a map of one entry there is no order to see.
+fn entered(s: &[u8], at: usize, node: Node, end: usize, maps: Maps, window: &mut [u8]) -> Order
+    requires { ⌜ PartAt (now s) at node end × (node .command ≡ 0x04 → ⊥) × (end + 4 ≤ length (now s)) × Held maps (now window) ⌝ }
+    ensures { λ r. ⌜ Enters (now (s .entry)) at (partOf node) end maps (now (window .entry)) (now (window .exit)) r ⌝ }
+{
+    let offset = get32(s, end);
+    let count = entries(node);
+    if count == 0 {
+        if maps.left == 0 {
+            return Order::Kept(maps);
+        }
+        return follow(maps, offset, window);
+    }
+    if count == 1 {
+        return Order::Kept(maps);
+    }
+    let Order::Kept(around) = room(s, at, maps, window) else {
+        return Order::Broken;
+    };
+    Order::Kept(Maps {
+        left: count - 1,
+        last: offset,
+        outer: around.outer,
+    })
 }
 
 // The larger of two.
@@ -304,30 +406,36 @@ fn max(a: u64, b: u64) -> u64
 }
 
 // The node at `from`, with every rule of acceptance.
-pub fn node(s: &[u8], from: usize) -> Span
+pub fn node(s: &[u8], from: usize, window: &mut [u8]) -> Span
     requires { ⌜ from ≤ length (now s) ⌝ }
     ensures { λ r. ⌜ Spans (now (s .entry)) from r ⌝ }
 {
     let mut at = from;
     let mut owed: usize = 0;
+    let mut maps = Maps {
+        left: 0,
+        last: 0,
+        outer: 0,
+    };
     let mut nodes: usize = 0;
     let mut types: u64 = 0;
     loop {
         let HeaderAt::Header { node, end } = sized(s, at, outline(s, at)) else {
             return Span::Broken;
         };
-        if !ordered(s, node, end) {
-            return Span::Broken;
-        }
         nodes += 1;
         types = max(types, bound(node));
         match past(s, node, end, owed) {
-            Next::Node {
-                at: next,
-                owed: owing,
-            } => {
-                at = next;
+            Next::Element => {
+                at = end;
+            }
+            Next::Entry(owing) => {
+                let Order::Kept(around) = entered(s, at, node, end, maps, window) else {
+                    return Span::Broken;
+                };
+                at = end + 4;
                 owed = owing;
+                maps = around;
             }
             Next::End => return Span::Node { end, nodes, types },
             Next::Broken => return Span::Broken,
@@ -336,11 +444,11 @@ pub fn node(s: &[u8], from: usize) -> Span
 }
 
 // What the node from `at` on tells, with nothing left over.
-fn alone(s: &[u8], at: usize) -> Found
+fn alone(s: &[u8], at: usize, window: &mut [u8]) -> Found
     requires { ⌜ at ≤ length (now s) ⌝ }
     ensures { λ r. ⌜ r ≡ told nodes typeBound (whole (readNode (drop at (now (s .entry))))) ⌝ }
 {
-    let Span::Node { end, nodes, types } = node(s, at) else {
+    let Span::Node { end, nodes, types } = node(s, at, window) else {
         return Found::Broken;
     };
     if end == s.len() {
@@ -367,7 +475,7 @@ fn opaque(s: &[u8]) -> Found
 }
 
 // `count` nodes from `from` on, with nothing left over.
-fn several(s: &[u8], from: usize, count: u32) -> Found
+fn several(s: &[u8], from: usize, count: u32, window: &mut [u8]) -> Found
     requires { ⌜ from ≤ length (now s) ⌝ }
     ensures { λ r. ⌜ r ≡ told nodesOf boundOf (whole (readNodes count (drop from (now (s .entry))))) ⌝ }
 {
@@ -380,7 +488,7 @@ fn several(s: &[u8], from: usize, count: u32) -> Found
             end,
             nodes: more,
             types: bound,
-        } = node(s, at)
+        } = node(s, at, window)
         else {
             return Found::Broken;
         };
@@ -397,21 +505,21 @@ fn several(s: &[u8], from: usize, count: u32) -> Found
 }
 
 // A Memory: 0A and a node.
-pub fn memory(s: &[u8]) -> Found
+pub fn memory(s: &[u8], window: &mut [u8]) -> Found
     ensures { λ r. ⌜ r ≡ told nodes typeBound (memoryOf (now (s .entry))) ⌝ }
 {
     if s.len() == 0 {
         return Found::Broken;
     }
     if s[0] == MEMORY {
-        alone(s, 1)
+        alone(s, 1, window)
     } else {
         Found::Broken
     }
 }
 
 // A top: 08 and a type, or 09 or 0A and a node. Which of them it is, the first byte says.
-pub fn top(s: &[u8]) -> Found
+pub fn top(s: &[u8], window: &mut [u8]) -> Found
     ensures { λ r. ⌜ r ≡ told topNodes topBound (topOf (now (s .entry))) ⌝ }
 {
     if s.len() == 0 {
@@ -420,13 +528,13 @@ pub fn top(s: &[u8]) -> Found
     let command = s[0];
     match command {
         OPAQUE => opaque(s),
-        BUFFER | MEMORY => alone(s, 1),
+        BUFFER | MEMORY => alone(s, 1, window),
         _ => Found::Broken,
     }
 }
 
 // A list: 0B, a count of at least 1, and so many nodes.
-pub fn list(s: &[u8]) -> Found
+pub fn list(s: &[u8], window: &mut [u8]) -> Found
     ensures { λ r. ⌜ r ≡ told allNodes allBound (listOf (now (s .entry))) ⌝ }
 {
     if s.len() == 0 {
@@ -443,5 +551,5 @@ pub fn list(s: &[u8]) -> Found
     if count == 0 {
         return Found::Broken;
     }
-    several(s, 1 + width, count)
+    several(s, 1 + width, count, window)
 }

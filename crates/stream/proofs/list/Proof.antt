@@ -3,19 +3,19 @@
 use mathlib.Core.Path.{sym, ap, _∙_}
 use native.Mathlib.Omega.{arith}
 use borrow.Author.Needs.{needs}
-use Rattle.records.proofs.Widths.{argument-width}
+use Rattle.numbers.proofs.Widths.{argument-width}
 use Rattle.stream.proofs.Firsts.{nothing-first, list-other, Begun, list-short, list-zero, list-nodes}
 use Rattle.stream.proofs.list.Statement.{statement}
 use Rattle.stream.proofs.list.Tie as tie
 
 returns : tie.Need-returns
-returns c = let s = c .before .before .args .s .now in rw (list-other s (omega (arith, nothing-first s (c .if1 .taken))))
+returns c = let s = c .before .before .before .args .s .now in rw (list-other s (omega (arith, nothing-first s (c .if1 .taken))))
 
 shared-slice-read-if2 : tie.Need-shared-slice-read-if2
 shared-slice-read-if2 c = search needs
 
 returns-2 : tie.Need-returns-2
-returns-2 c = rw (list-other (c .before .before .before .before .args .s .now) (c .if2 .taken))
+returns-2 c = rw (list-other (c .before .before .before .before .before .args .s .now) (c .if2 .taken))
 
 of-requires : tie.Need-of-requires
 of-requires c κs = search needs
@@ -26,7 +26,7 @@ cast-width c = search needs
 sub-if3 : tie.Need-sub-if3
 sub-if3 c = search needs
 
-begun : (c : tie.After-of) → Begun (c .before .before .before .before .before .args .s .now) (c .of .result .argument)
+begun : (c : tie.After-of) → Begun (c .before .before .before .before .before .before .args .s .now) (c .of .result .argument)
 begun c = record { command = c .before .if2 .left; width = ap (λ r. r .argument) (c .of .ensures) }
 
 returns-3 : tie.Need-returns-3
@@ -44,10 +44,13 @@ add-several c = search needs
 several-requires : tie.Need-several-requires
 several-requires c κs = search needs
 
+same-length : tie.Need-same-length
+same-length c = search needs
+
 returns-5 : tie.Need-returns-5
 returns-5 c =
-    c .several .ensures
-    ∙ sym (list-nodes (begun (c .before .before .before .before .before)) (omega arith) (c .before .before .number .ensures) (c .before .if4 .left))
+    c .before .before .several .ensures
+    ∙ sym (list-nodes (begun (c .before .before .before .before .before .before .before .before)) (omega arith) (c .before .before .before .before .before .number .ensures) (c .before .before .before .before .if4 .left))
 
 pub list-spec : {M : Type 1} → statement M
 list-spec =
@@ -64,4 +67,5 @@ list-spec =
     returns-4
     add-several
     several-requires
+    same-length
     returns-5)

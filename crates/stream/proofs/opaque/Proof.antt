@@ -4,7 +4,7 @@ use mathlib.Core.Path.{ap}
 use native.Mathlib.Omega.{arith}
 use native.Mathlib.Numerals.{add-one}
 use borrow.Author.Needs.{needs}
-use Rattle.records.proofs.Widths.{argument-width}
+use Rattle.numbers.proofs.Widths.{argument-width}
 use Rattle.stream.proofs.Wholes.{opaque-not, opaque-is}
 use Rattle.stream.proofs.opaque.Statement.{statement}
 use Rattle.stream.proofs.opaque.Tie as tie

@@ -6,7 +6,7 @@ use borrow.Author.Needs.{needs}
 use lib.ListN.{getD}
 use Rattle.definitions.specs.Command.{commandAt}
 use Rattle.qptr.specs.Values.{rowOf}
-use Rattle.records.proofs.Widths.{argument-width}
+use Rattle.numbers.proofs.Widths.{argument-width}
 use Rattle.stream.proofs.Parts.{head-cut, outline-at}
 use Rattle.stream.proofs.outlined.Statement.{statement}
 use Rattle.stream.proofs.outlined.Tie as tie

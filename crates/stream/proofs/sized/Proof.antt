@@ -9,7 +9,7 @@ use Rattle.definitions.specs.If.{if_then_else_}
 use Rattle.definitions.specs.Command.{Head, sizeWidth}
 use Rattle.definitions.specs.Stream.{read, broken}
 use Rattle.qptr.specs.Values.{sizeOf}
-use Rattle.records.proofs.Widths.{size-width}
+use Rattle.numbers.proofs.Widths.{size-width}
 use Rattle.stream.specs.Head.{head, OutlineAt}
 use Rattle.stream.proofs.Heads.{node-reads}
 use Rattle.stream.proofs.sized.Statement.{statement}

@@ -42,34 +42,46 @@ past-requires c κs = let here = part c in (omega arith, omega arith)
 
 turn : (c : tie.After-past Inv-loop μ-loop)
     → (let a = c .before .before .before .before .before .before .before .args in
-    Skips-on (a .s .now) (a .from) (c .before .before .node .given .0 .1 .0) (c .past .result))
+    Skips-on (a .s .now) (a .from) (c .before .before .node .given .0 .1 .0) (c .before .before .before .before .before .loop .owed) (c .past .result))
 turn c =
     let a = c .before .before .before .before .before .before .before .args in
     skip-turn (a .s .now) (a .from) (c .before .before .before .before .before .loop .inv) (part (c .before)) (c .past .result) (c .past .ensures)
 
-enum-known-next : tie.Need-enum-known-next Inv-loop μ-loop
-enum-known-next c = search needs
-
-loop-less : tie.Need-loop-less Inv-loop μ-loop
-loop-less c =
-    let here = part (c .before .before .before .before) in
-    let next = rw (c .before .next .given .1) at (turn (c .before .before .before)) in
-    omega arith
-
-loop-again : tie.Need-loop-again Inv-loop μ-loop
-loop-again c = (rw (c .before .next .given .1) at (turn (c .before .before .before))) .1
-
 enum-told-2 : tie.Need-enum-told-2 Inv-loop μ-loop
 enum-told-2 c = search needs
 
-returns-2 : tie.Need-returns-2 Inv-loop μ-loop
-returns-2 c = rw (c .enum-told2 .given .1) at (turn (c .before .before))
+loop-less : tie.Need-loop-less Inv-loop μ-loop
+loop-less c = let here = part (c .before .before .before) in omega arith
+
+loop-again : tie.Need-loop-again Inv-loop μ-loop
+loop-again c = rw (c .enum-told2 .given .1) at (turn (c .before .before))
+
+enum-known-owing : tie.Need-enum-known-owing Inv-loop μ-loop
+enum-known-owing c = search needs
+
+add-at : tie.Need-add-at Inv-loop μ-loop
+add-at c = let next = rw (c .before .owing .given .1) at (turn (c .before .before .before)) in omega (arith, next .within)
+
+loop-less-2 : tie.Need-loop-less-2 Inv-loop μ-loop
+loop-less-2 c =
+    let here = part (c .before .before .before .before) in
+    let next = rw (c .before .owing .given .1) at (turn (c .before .before .before)) in
+    omega (arith, here .taken, next .within)
+
+loop-again-2 : tie.Need-loop-again-2 Inv-loop μ-loop
+loop-again-2 c = rw (c .before .owing .given .1) at (turn (c .before .before .before))
 
 enum-told-3 : tie.Need-enum-told-3 Inv-loop μ-loop
 enum-told-3 c = search needs
 
+returns-2 : tie.Need-returns-2 Inv-loop μ-loop
+returns-2 c = rw (c .enum-told3 .given .1) at (turn (c .before .before))
+
+enum-told-4 : tie.Need-enum-told-4 Inv-loop μ-loop
+enum-told-4 c = search needs
+
 returns-3 : tie.Need-returns-3 Inv-loop μ-loop
-returns-3 c = rw (c .enum-told3 .given .1) at (turn (c .before .before))
+returns-3 c = rw (c .enum-told4 .given .1) at (turn (c .before .before))
 
 pub skip-spec : {M : Type 1} → statement M
 skip-spec =
@@ -83,10 +95,14 @@ skip-spec =
     enum-told
     returns
     past-requires
-    enum-known-next
+    enum-told-2
     loop-less
     loop-again
-    enum-told-2
-    returns-2
+    enum-known-owing
+    add-at
+    loop-less-2
+    loop-again-2
     enum-told-3
+    returns-2
+    enum-told-4
     returns-3)

@@ -9,7 +9,7 @@ use Rattle.stream.proofs.top.Tie as tie
 
 returns : tie.Need-returns
 returns c =
-    let s = c .before .before .args .s .now in
+    let s = c .before .before .before .args .s .now in
     let first = nothing-first s (c .if1 .taken) in
     rw (top-other s (omega arith) (λ low high. omega arith))
 
@@ -23,16 +23,19 @@ alone-requires : tie.Need-alone-requires
 alone-requires c κs = search needs
 
 returns-2 : tie.Need-returns-2
-returns-2 c = rw (top-opaque (c .before .before .before .before .before .args .s .now) (c .before .match .keys1)) (c .opaque .ensures)
+returns-2 c = rw (top-opaque (c .before .before .before .before .before .before .args .s .now) (c .before .match .keys1)) (c .opaque .ensures)
+
+same-length : tie.Need-same-length
+same-length c = search needs
 
 returns-3 : tie.Need-returns-3
-returns-3 c = c .alone .ensures ∙ sym (top-node (c .before .before .before .before .before .before .before .args .s .now) (omega arith) (omega arith))
+returns-3 c = c .before .before .alone .ensures ∙ sym (top-node (c .before .before .before .before .before .before .before .before .before .before .before .args .s .now) (omega arith) (omega arith))
 
 returns-4 : tie.Need-returns-4
-returns-4 c = rw (top-other (c .before .before .before .before .before .args .s .now) (c .before .match .rest .1) (λ low high. omega arith))
+returns-4 c = rw (top-other (c .before .before .before .before .before .before .args .s .now) (c .before .match .rest .1) (λ low high. omega arith))
 
 returns-5 : tie.Need-returns-5
-returns-5 c = rw (top-other (c .before .before .before .before .before .before .args .s .now) (c .before .before .match .rest .1) (λ low high. omega arith))
+returns-5 c = rw (top-other (c .before .before .before .before .before .before .before .args .s .now) (c .before .before .match .rest .1) (λ low high. omega arith))
 
 pub top-spec : {M : Type 1} → statement M
 top-spec =
@@ -43,6 +46,7 @@ top-spec =
     opaque-requires
     alone-requires
     returns-2
+    same-length
     returns-3
     returns-4
     returns-5)
