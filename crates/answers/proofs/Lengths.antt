@@ -8,7 +8,7 @@ use Rattle.definitions.specs.Usage.{Usage, unused, leaf, map, array, Entries, n
 use Rattle.definitions.specs.Command.{headOf}
 use Rattle.definitions.specs.Stream.{bytes, writeHead, writeNode, writeEntries}
 use Rattle.definitions.proofs.Numbers.{bytes-length}
-use Rattle.transfer.proofs.Widths.{head-length, own-small}
+use Rattle.transfer_out.proofs.Widths.{head-length, own-small}
 
 own-bytes : (u : Usage) → length (writeHead (headOf u)) ≤ 10
 own-bytes u = omega (arith, head-length (headOf u), own-small u)

@@ -1,6 +1,6 @@
 -- What place, merge and fold come to before their answer is written, and what they then give back.
 -- Assumes nothing.
-use Prim.Native.Nat.{ℕ, zero, suc, _*_, _≤_}
+use Prim.Native.Nat.{ℕ, zero, suc, _<_, _≤_}
 use mathlib.Core.Path.{_≡_}
 use mathlib.Core.List.{List, [], _∷_}
 use lib.ListN.{length, take}
@@ -8,8 +8,8 @@ use Rattle.definitions.specs.Usage.{Usage, nodes}
 use Rattle.definitions.specs.Stream.{writeNode}
 use Rattle.definitions.specs.Place.{Result, refused, done, under}
 use Rattle.definitions.specs.Calls.{Written, written}
-use Rattle.records.specs.Usages.{At}
-use Rattle.states.specs.declared.Outcome.{Outcome}
+use Rattle.links.specs.Standing.{Stands}
+use Rattle.place_states.specs.declared.Outcome.{Outcome}
 use Rattle.answers.specs.Answers.{answerOf}
 use Rattle.answers.specs.declared.Answer.{Answer}
 
@@ -19,13 +19,14 @@ pub record Gives (w : Written) (a : Answer) (output report : List ℕ) : Type 0 
   pub usage : output ≡ w .output
   pub reported : report ≡ w .report
 
--- u stands from record 0 on; its report w is at the buffer's start, if it fits, and there were p pairings
+-- u is the result; its report w is at the buffer's start, if it fits, and there were p pairings
 pub record Stood (u : Usage) (w : List ℕ) (p : ℕ) (work : List ℕ) (r : Outcome) (report : List ℕ) : Type 0 where
   pub answered : r .refusal ≡ 0
-  pub offset : ℕ
-  pub stands : At u work 0 offset
-  pub inside : nodes u * 32 ≤ length work
-  pub small : nodes u ≤ 65536
+  pub rank : ℕ → ℕ
+  pub lo : ℕ
+  pub hi : ℕ
+  pub stands : Stands u work (r .node) rank lo hi
+  pub small : nodes u < 65536
   pub pairs : r .pairings ≡ p
   pub length-is : r .at ≡ length w
   pub bytes : length w ≤ length report → take (length w) report ≡ w

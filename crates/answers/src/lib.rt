@@ -9,7 +9,7 @@ ghost use Rattle.definitions.specs.Place.{done};
 ghost use Rattle.definitions.specs.Calls.{refusal, said, written};
 ghost use Rattle.answers.specs.Answers.{answerOf};
 ghost use Rattle.answers.specs.Writing.{Gives, Reachable, Finished, unlikeReport};
-use states::Outcome;
+use place_states::Outcome;
 
 // The refusals, in their order; 8 and 9 are met while placing.
 pub const SHORT_WORK: u32 = 1;
@@ -84,7 +84,7 @@ fn answered(usage: usize, report: usize, pairings: u32) -> Answer
     }
 }
 
-// What a placing has come to is written: a refusal; or 10 and 11, and then the usage from record 0 on, behind its first byte.
+// What a placing has come to is written: a refusal; or 10 and 11, and then the usage, behind its first byte.
 pub fn finish(top: u8, r: Outcome, work: &[u8], output: &mut [u8], rep: &mut [u8]) -> Answer
     requires { ⌜ Reachable (now work) r (now rep) ⌝ }
     ensures { λ a. ⌜ Finished top r (now (work .entry)) (now (output .entry)) (now (rep .entry)) a (now (output .exit)) (now (rep .exit)) ⌝ }
@@ -92,7 +92,7 @@ pub fn finish(top: u8, r: Outcome, work: &[u8], output: &mut [u8], rep: &mut [u8
     if r.refusal != 0 {
         return refuse(r.refusal, rep);
     }
-    let length = 1 + transfer::written_length(work, 0);
+    let length = 1 + transfer_out::written_length(work, r.node);
     if output.len() < length {
         return refuse(SHORT_OUTPUT, rep);
     }
@@ -100,7 +100,7 @@ pub fn finish(top: u8, r: Outcome, work: &[u8], output: &mut [u8], rep: &mut [u8
         return refuse(SHORT_REPORT, rep);
     }
     output[0] = top;
-    transfer::write(work, 0, output, 1);
+    transfer_out::write(work, r.node, output, 1);
     report::zero(rep, r.at);
     answered(length, r.at, r.pairings)
 }

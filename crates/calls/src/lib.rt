@@ -16,6 +16,9 @@ use qptr::Node;
 use stream::Found;
 use stream::HeaderAt;
 
+// The bytes from which on a stream is not short: a short one has few maps inside of each other, so a small window does.
+const SHORT: usize = 1024;
+
 // Which of two streams receives.
 pub enum Received {
     Nobody,
@@ -29,11 +32,11 @@ enum Root {
     Broken,
 }
 
-// A Memory stream's nodes and its root's own part.
-fn root_of(s: &[u8]) -> Root
+// A Memory stream's nodes and its root's own part. What the window holds does not matter.
+fn root_of(s: &[u8], window: &mut [u8]) -> Root
     ensures { λ r. ⌜ Rooted (now (s .entry)) r ⌝ }
 {
-    let Found::Stream { nodes, types: _ } = stream::memory(s) else {
+    let Found::Stream { nodes, types: _ } = stream::memory(s, window) else {
         return Root::Broken;
     };
     let HeaderAt::Header { node, end: _ } = stream::header(s, 1) else {
@@ -43,13 +46,13 @@ fn root_of(s: &[u8]) -> Root
 }
 
 // Which of two Memory streams receives the other; nobody where one is broken or both have too many nodes.
-pub fn receiving(first: &[u8], second: &[u8]) -> Received
+fn who_receives(first: &[u8], second: &[u8], window: &mut [u8]) -> Received
     ensures { λ r. ⌜ firstOf r ≡ answered (receiverOf (now (first .entry)) (now (second .entry))) ⌝ }
 {
-    let Root::Memory { nodes: n, node: a } = root_of(first) else {
+    let Root::Memory { nodes: n, node: a } = root_of(first, window) else {
         return Received::Nobody;
     };
-    let Root::Memory { nodes: m, node: b } = root_of(second) else {
+    let Root::Memory { nodes: m, node: b } = root_of(second, window) else {
         return Received::Nobody;
     };
     if NODES < n {
@@ -62,6 +65,20 @@ pub fn receiving(first: &[u8], second: &[u8]) -> Received
         return Received::First;
     }
     Received::Second
+}
+
+// The same. The window has 16 levels where both streams are short, else 1,024, which take longer to clear.
+pub fn receiving(first: &[u8], second: &[u8]) -> Received
+    ensures { λ r. ⌜ firstOf r ≡ answered (receiverOf (now (first .entry)) (now (second .entry))) ⌝ }
+{
+    if first.len() < SHORT {
+        if second.len() < SHORT {
+            let mut window = [0u8; 96];
+            return who_receives(first, second, &mut window);
+        }
+    }
+    let mut window = [0u8; 6144];
+    who_receives(first, second, &mut window)
 }
 
 // The receiving stream itself, or an empty part where nobody receives.

@@ -19,18 +19,17 @@ use Rattle.definitions.proofs.Nodes.{some-node}
 use Rattle.definitions.proofs.After.{after-nothing, after-both}
 use Rattle.definitions.proofs.FewPairings.{mergeMem-few, fold-few}
 use Rattle.definitions.proofs.Stored.{mergeMem-storable}
-use Rattle.records.specs.Words.{Width, numberAt}
-use Rattle.records.specs.Usages.{At}
-use Rattle.records.proofs.Parts.{same-bytes}
-use Rattle.records.proofs.Widths.{argument-width}
+use Rattle.numbers.specs.Words.{Width, numberAt}
+use Rattle.links.specs.Standing.{Stands}
+use Rattle.links.proofs.Frames.{kept-none}
+use Rattle.numbers.proofs.Widths.{argument-width}
 use Rattle.layout.specs.Places.{Known}
 use Rattle.report.specs.Emitted.{Emitted}
 use Rattle.report.proofs.Emitting.{emitted-nothing, emitted-after}
-use Rattle.states.specs.Calls.{Done}
-use Rattle.states.specs.Fingers.{Finger}
-use Rattle.states.proofs.Fingers.{no-finger}
+use Rattle.place_states.specs.Calls.{ground}
+use Rattle.transfer_in.specs.Loading.{itself}
 use Rattle.answers.specs.Writing.{Reached}
-use Rattle.folding.specs.Folding.{NodeReady, NodeLoaded, NextReady, ofNext, NextFolded, Foldable}
+use Rattle.folding.specs.Folding.{NodeReady, NodeLoaded, NextReady, ofNext, NextDone, NextFolded, Foldable}
 use Rattle.folding.specs.declared.Folded.{Folded}
 use Rattle.folding.specs.declared.Loaded.{Loaded}
 use Rattle.folding.proofs.Lists.{Listed, Counted, nodes-left, list-behind}
@@ -52,9 +51,10 @@ pub record Folding (st : Setting) (ns : Nodes) (list : List ℕ) (count : ℕ) (
   pub to-come : i + left ≡ count
   pub reads : readNodes left (drop (f .end) list) ≡ read us []
   pub within : f .end ≤ length list
-  pub offset : ℕ
-  pub stands : At u work 0 offset
-  pub counted : nodes u ≡ f .result .nodes
+  pub rank : ℕ → ℕ
+  pub stands : Stands u work (f .result .node) rank 1 (f .free)
+  pub fresh : (i : ℕ) → f .free ≤ i → rank i ≡ i
+  pub room : f .free + nodesOf us ≤ suc nodeLimit
   pub answered : f .result .refusal ≡ 0
   pub fits : Storable (length (st .table)) u
   pub others-fit : AllStorable (length (st .table)) us
@@ -63,12 +63,11 @@ pub record Folding (st : Setting) (ns : Nodes) (list : List ℕ) (count : ℕ) (
   pub short : length w ≤ i * 2 ^ 22
   pub pairs : f .result .pairings ≡ p % 2 ^ 32
   pub report : Emitted rep₀ 0 w rep (f .result .at)
-  pub finger : Finger work 0 (f .result .nodes) (f .result .finger)
 
 -- The first node
 
 abbrev start : Loaded → Folded
-start l = record { end = l .end; result = record { refusal = 0; nodes = l .nodes; pairings = 0; at = 0; finger = 0 } }
+start l = record { end = l .end; free = 1 + l .nodes; result = record { refusal = 0; node = 1; pairings = 0; at = 0 } }
 
 module _ {table places list : List ℕ} {st : Setting} {ns : Nodes} (foldable : Foldable table places list st ns) {w : ℕ} (width : w ≡ argumentWidth 0x0B) where
   pub count-inside : Width w × (1 + w ≤ length list)
@@ -77,21 +76,25 @@ module _ {table places list : List ℕ} {st : Setting} {ns : Nodes} (foldable : 
   all-counted : Counted (numberAt w list 1) (drop (1 + w) list) ns []
   all-counted = rw width (list-behind list (foldable .is) .1)
 
-  pub first-ready : {work : List ℕ} → workLimit ≤ length work → NodeReady list (1 + w) work 0
-  first-ready enough =
+  pub first-ready : {work : List ℕ} → length work ≡ workLimit → NodeReady list (1 + w) work 1
+  first-ready area =
       let all = all-counted in
       record {
         usage = ns .first;
         rest = all .behind;
         reads = all .first-reads;
         within = count-inside .1;
+        some = omega arith;
         inside = omega (arith, foldable .few);
-        small = omega (arith, foldable .few);
+        few = omega (arith, foldable .few);
       }
 
+  pub first-few : {work work₁ : List ℕ} {l : Loaded} → NodeLoaded list (1 + w) work 1 work₁ l → l .nodes ≤ nodeLimit
+  first-few loaded = let all = all-counted in omega (arith, foldable .few, loaded .counted (ns .first) (all .behind) (all .first-reads))
+
   pub fold-start : {work work₁ : List ℕ} {l : Loaded} (rep : List ℕ) {count : ℕ} → count ≡ numberAt w list 1
-      → NodeLoaded list (1 + w) work 0 work₁ l → Folding st ns list count rep work₁ rep (start l) 1
-  unfolding fold
+      → NodeLoaded list (1 + w) work 1 work₁ l → Folding st ns list count rep work₁ rep (start l) 1
+  unfolding fold itself
   fold-start {work₁} {l} rep e loaded =
       let all = all-counted in
       let place : drop (l .end) list ≡ all .behind = loaded .behind (ns .first) (all .behind) (all .first-reads) in
@@ -105,9 +108,10 @@ module _ {table places list : List ℕ} {st : Setting} {ns : Nodes} (foldable : 
         to-come = omega (arith, all .counted);
         reads = rw place (all .others-read);
         within = loaded .within;
-        offset = 0;
-        stands = loaded .stands (ns .first) (all .behind) (all .first-reads);
-        counted = loaded .counted (ns .first) (all .behind) (all .first-reads);
+        rank = itself;
+        stands = rw (loaded .counted (ns .first) (all .behind) (all .first-reads)) at (loaded .stands (ns .first) (all .behind) (all .first-reads));
+        fresh = λ i le. refl;
+        room = omega (arith, foldable .few, loaded .counted (ns .first) (all .behind) (all .first-reads));
         answered = refl;
         fits = foldable .fits .0;
         others-fit = foldable .fits .1;
@@ -116,7 +120,6 @@ module _ {table places list : List ℕ} {st : Setting} {ns : Nodes} (foldable : 
         short = omega arith;
         pairs = omega arith;
         report = emitted-nothing rep 0 (omega arith);
-        finger = no-finger work₁ 0 (l .nodes);
       }
 
 -- The next ones
@@ -127,8 +130,8 @@ module _ {st : Setting} {ns : Nodes} {list : List ℕ} {count : ℕ} {rep₀ wor
       let one : folding .left ≡ suc (folding .left - 1) = omega (arith, folding .to-come) in
       nodes-left (folding .left - 1) (drop (f .end) list) (rw one at (folding .reads))
 
-  pub turn-ready : {table places : List ℕ} → Known table places st → i < count → workLimit ≤ length work → NextReady table places list f work
-  turn-ready known more enough =
+  pub turn-ready : {table places : List ℕ} → Known table places st → i < count → length work ≡ workLimit → NextReady table places list f work
+  turn-ready known more area =
       let node = next-node more in
       let few : nodes (folding .u) + nodesOf (node .first ∷ node .others) ≤ nodeLimit = rw (node .is) at (folding .few) in
       let fit : AllStorable (length (st .table)) (node .first ∷ node .others) = rw (node .is) at (folding .others-fit) in
@@ -140,18 +143,18 @@ module _ {st : Setting} {ns : Nodes} {list : List ℕ} {count : ℕ} {rep₀ wor
         beside =
             record {
               known = known;
-              offset = folding .offset;
+              rank = folding .rank;
               stands = folding .stands;
-              counted = folding .counted;
+              fresh = folding .fresh;
               reads = node .first-reads;
               left-fits = folding .fits;
               right-fits = fit .0;
+              few = omega arith;
             };
         within = folding .within;
-        few = omega arith;
-        enough = enough;
+        room = omega (arith, rw (node .is) at (folding .room));
+        area = area;
         near = omega (arith, folding .report .place, folding .short, folding .turns);
-        finger = folding .finger;
       }
 
   module _ {table places : List ℕ} (known : Known table places st) (more : i < count) {work′ rep′ : List ℕ} {r : Folded} (next : NextFolded table places list i f work rep work′ rep′ r) where
@@ -159,16 +162,17 @@ module _ {st : Setting} {ns : Nodes} {list : List ℕ} {count : ℕ} {rep₀ wor
     node-fit = rw (next-node more .is) at (folding .others-fit)
 
     -- what merging the next node gives is left
-    left : Done (ofNext i (f .result .pairings) (mergeMem st (folding .u) (next-node more .first))) work′ (r .result .refusal) (r .result .nodes) (r .result .pairings) rep (f .result .at) rep′ (r .result .at)
+    left : NextDone (ofNext i (f .result .pairings) (mergeMem st (folding .u) (next-node more .first))) work′ rep (f .result .at) rep′ r
     left = next .merged st (folding .u) (next-node more .first) (next-node more .behind)
         (record {
           known = known;
-          offset = folding .offset;
+          rank = folding .rank;
           stands = folding .stands;
-          counted = folding .counted;
+          fresh = folding .fresh;
           reads = next-node more .first-reads;
           left-fits = folding .fits;
           right-fits = node-fit .0;
+          few = let was : nodes (folding .u) + nodesOf (next-node more .first ∷ next-node more .others) ≤ nodeLimit = rw (next-node more .is) at (folding .few) in omega arith;
         })
 
     -- and the definition goes on with it
@@ -183,7 +187,7 @@ module _ {st : Setting} {ns : Nodes} {list : List ℕ} {count : ℕ} {rep₀ wor
     turn-refused not0 = go (mergeMem st (folding .u) (next-node more .first)) refl left
       where
         go : (x : Result Usage) → mergeMem st (folding .u) (next-node more .first) ≡ x
-            → Done (ofNext i (f .result .pairings) x) work′ (r .result .refusal) (r .result .nodes) (r .result .pairings) rep (f .result .at) rep′ (r .result .at)
+            → NextDone (ofNext i (f .result .pairings) x) work′ rep (f .result .at) rep′ r
             → Reached (fold st ns) work′ (r .result) rep′
         go (refused k) e D = rw (onward e) D
         go (done v w q) e D = absurd (not0 (D .answered))
@@ -192,7 +196,7 @@ module _ {st : Setting} {ns : Nodes} {list : List ℕ} {count : ℕ} {rep₀ wor
     turn-on is0 = go (mergeMem st (folding .u) (next-node more .first)) refl left
       where
         go : (x : Result Usage) → mergeMem st (folding .u) (next-node more .first) ≡ x
-            → Done (ofNext i (f .result .pairings) x) work′ (r .result .refusal) (r .result .nodes) (r .result .pairings) rep (f .result .at) rep′ (r .result .at)
+            → NextDone (ofNext i (f .result .pairings) x) work′ rep (f .result .at) rep′ r
             → Folding st ns list count rep₀ work′ rep′ r (i + 1)
         go (refused k) e D = absurd (omega (arith, D .0, D .1))
         go (done v w q) e D =
@@ -212,9 +216,10 @@ module _ {st : Setting} {ns : Nodes} {list : List ℕ} {count : ℕ} {rep₀ wor
               to-come = omega (arith, folding .to-come);
               reads = rw place (node .others-read);
               within = next .within;
-              offset = D .offset;
+              rank = D .rank;
               stands = D .stands;
-              counted = D .count;
+              fresh = D .fresh;
+              room = omega (arith, rw (node .is) at (folding .room), next .free (node .first) (node .behind) (node .first-reads));
               answered = is0;
               fits = mergeMem-storable st (length (st .table)) (folding .u) (node .first) (folding .fits) (node-fit .0) e;
               others-fit = node-fit .1;
@@ -223,19 +228,18 @@ module _ {st : Setting} {ns : Nodes} {list : List ℕ} {count : ℕ} {rep₀ wor
               short = omega (arith, short, folding .short, node-short i w, length-append (folding .w) (ofNode i w));
               pairs = omega (arith, D .pairs, folding .pairs);
               report = emitted-after (folding .report) (D .report);
-              finger = next .finger is0;
             }
 
   -- The end
 
-  pub fold-end : allNodes ns ≤ nodeLimit → count ≤ i → workLimit ≤ length work → Reached (fold st ns) work (f .result) rep
-  fold-end few all enough =
-      reached nodeLimit work work (omega arith) enough (λ j lt. same-bytes work work (0 + j) (0 + j) (λ k l. refl)) (fold st ns) (f .result) rep₀ rep (λ u w p e. fold-few st ns e few)
+  pub fold-end : allNodes ns ≤ nodeLimit → count ≤ i → Reached (fold st ns) work (f .result) rep
+  fold-end few all =
+      reached nodeLimit (omega arith) (ground work (folding .rank) 1 (f .free) rep₀ 0) refl work (f .result) rep (fold st ns) (λ u w p e. fold-few st ns e few)
       (rw is-done (record {
         answered = folding .answered;
-        offset = folding .offset;
+        rank = folding .rank;
+        kept = kept-none work (folding .rank) 1 (f .free);
         stands = folding .stands;
-        count = folding .counted;
         pairs = folding .pairs;
         report = folding .report;
       }))

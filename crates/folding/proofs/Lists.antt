@@ -12,8 +12,8 @@ use Rattle.definitions.specs.Command.{argumentWidth}
 use Rattle.definitions.specs.Stream.{Read, broken, read, _then_, readNode, readNodes, readCounted, readList, listOf}
 use Rattle.definitions.proofs.Choice.{either}
 use Rattle.definitions.proofs.Reading.{Reads, stops, gives, reads-map, reads-is, reads-whole}
-use Rattle.records.specs.Words.{numberAt}
-use Rattle.records.proofs.Numbers.{number-then}
+use Rattle.numbers.specs.Words.{numberAt}
+use Rattle.numbers.proofs.Numbers.{number-then}
 
 -- a is made of a node and of k others behind it
 pub record Listed {A : Type 0} (made : Usage → List Usage → A) (k : ℕ) (bs : List ℕ) (a : A) (rest : List ℕ) : Type 0 where

@@ -1,30 +1,30 @@
 -- One node more of a fold: it stands behind what the nodes so far have come to, the two are merged, and a 38 with nothing behind it is
 -- taken back. The positions stay far from where they wrap, since few nodes have a short report.
 -- Assumes nothing.
-use Prim.Native.Nat.{ℕ, _+_, _-_, _*_, _%_, _^_, _<_, _≤_}
-use mathlib.Core.Path.{_≡_, refl}
+use Prim.Native.Nat.{ℕ, suc, _+_, _-_, _*_, _%_, _^_, _<_, _≤_}
+use mathlib.Core.Path.{_≡_, refl, _∙_, subst}
 use mathlib.Core.List.{List, [], _∷_, _++_}
+use native.Mathlib.Decide.{decLt}
 use native.Mathlib.Omega.{arith}
-use lib.ListN.{length, take, drop}
+use lib.ListN.{length}
 use Rattle.definitions.specs.Limits.{nodeLimit, workLimit}
 use Rattle.definitions.specs.Usage.{Usage, nodes}
 use Rattle.definitions.specs.Stream.{bytes}
 use Rattle.definitions.specs.Table.{Setting}
 use Rattle.definitions.specs.Place.{Result, refused, done, mergeMem, ofNode}
 use Rattle.definitions.proofs.FewPairings.{mergeMem-few}
-use Rattle.records.specs.Records.{Same}
-use Rattle.records.proofs.Usages.{SameRun, at-move}
-use Rattle.records.proofs.Parts.{same-left, same-take}
+use Rattle.links.specs.Standing.{Stands}
+use Rattle.links.specs.Rows.{nodesAt}
+use Rattle.links.proofs.Stands.{stands-le, stands-still}
 use Rattle.report.specs.Emitted.{Emitted}
 use Rattle.report.proofs.Emitting.{emitted-after, emitted-back, emitted-same}
-use Rattle.states.specs.Calls.{Two, Ready, Fine, Done, merging, Placed}
-use Rattle.states.specs.Fingers.{Finger, Fingered}
-use Rattle.states.proofs.Fingers.{finger-move}
-use Rattle.states.specs.declared.Outcome.{Outcome}
-use Rattle.folding.specs.Folding.{NodeReady, NodeLoaded, Beside, NextReady, ofNext, NextFolded}
+use Rattle.place_states.specs.Calls.{Two, Ready, Near, Linkable, ground, Answered, Done, merging, Placed}
+use Rattle.place_states.specs.declared.Outcome.{Outcome}
+use Rattle.transfer_in.specs.Loading.{itself}
+use Rattle.folding.specs.Folding.{NodeReady, NodeLoaded, Beside, NextReady, ofNext, NextDone, NextFolded}
 use Rattle.folding.specs.declared.Folded.{Folded}
 use Rattle.folding.specs.declared.Loaded.{Loaded}
-use Rattle.inputs.proofs.Lending.{lent, back, two-lent, ready-lent}
+use Rattle.inputs.proofs.Lending.{ready-two, near-two}
 
 -- The report of one node
 
@@ -41,78 +41,71 @@ module _ (i : ℕ) {rep : List ℕ} {at : ℕ} {rep₁ : List ℕ} {at₁ : ℕ}
   index-kept ne (x ∷ xs) short E = emitted-after head E
 
 module _ {table places list : List ℕ} {f : Folded} {work : List ℕ} (ready : NextReady table places list f work) where
-  pub next-node-ready : NodeReady list (f .end) work (f .result .nodes)
-  next-node-ready = record {
-    usage = ready .b;
-    rest = ready .rest;
-    reads = ready .beside .reads;
-    within = ready .within;
-    inside = omega (arith, ready .beside .counted, ready .few, ready .enough);
-    small = omega (arith, ready .few);
-  }
+  pub next-node-ready : NodeReady list (f .end) work (f .free)
+  next-node-ready =
+      let B = ready .beside in
+      record {
+        usage = ready .b;
+        rest = ready .rest;
+        reads = B .reads;
+        within = ready .within;
+        some = omega (arith, stands-le (ready .a) work (f .result .node) (B .rank) 1 (f .free) (B .stands));
+        inside = omega (arith, ready .room, ready .area);
+        few = omega (arith, ready .room);
+      }
 
-  module _ {work₁ : List ℕ} {next : Loaded} (loaded : NodeLoaded list (f .end) work (f .result .nodes) work₁ next) where
-    pub next-few : f .result .nodes + next .nodes ≤ nodeLimit
-    next-few = omega (arith, ready .few, ready .beside .counted, loaded .counted (ready .b) (ready .rest) (ready .beside .reads))
+  module _ {work₁ : List ℕ} {next : Loaded} (same : length work₁ ≡ length work) (loaded : NodeLoaded list (f .end) work (f .free) work₁ next) where
+    next-two : (st : Setting) (a b : Usage) (rest : List ℕ) (B : Beside table places list f work st a b rest) → Two (length (st .table)) work₁ (f .result .node) (f .free) (B .rank) 1 (f .free) (f .free + nodes b) a b
+    unfolding itself
+    next-two st a b rest B = record {
+      left = stands-still a work work₁ (f .result .node) (B .rank) (B .rank) 1 (f .free) same (λ i low high. (loaded .kept i (below i high), refl)) (B .stands);
+      right = stands-still b work₁ work₁ (f .free) itself (B .rank) (f .free) (f .free + nodes b) refl (λ i low high. (refl, B .fresh i low)) (loaded .stands b rest (B .reads));
+      left-fits = B .left-fits;
+      right-fits = B .right-fits;
+      few = B .few;
+    }
+      where
+        below : (i : ℕ) → B .rank i < f .free → i < f .free
+        below i high = elim (decLt i (f .free)) [
+          | yes lt ↦ lt
+          | no le ↦ absurd (omega (arith, B .fresh i (omega arith)))
+        ]
 
-    pub next-room : (f .result .nodes + next .nodes) * 32 ≤ workLimit
-    next-room = omega (arith, next-few)
+    pub next-free : f .free + next .nodes ≤ 65536
+    next-free = omega (arith, ready .room, loaded .counted (ready .b) (ready .rest) (ready .beside .reads))
 
-    -- loading a node leaves the work area as long as it was
-    pub next-inside : length work₁ ≡ length work → (f .result .nodes + next .nodes) * 32 ≤ length work₁
-    next-inside same = omega (arith, next-room, ready .enough)
+    pub next-merges : Ready table places work₁ (f .result .node) (f .free)
+    next-merges = ready-two (ready .setting) (next-two (ready .setting) (ready .a) (ready .b) (ready .rest) (ready .beside)) (ready .beside .known) (omega (arith, ready .area))
 
-    module _ (inside : (f .result .nodes + next .nodes) * 32 ≤ length work₁) where
-      next-two : (st : Setting) (a b : Usage) (rest : List ℕ) → Beside table places list f work st a b rest
-          → Two (length (st .table)) (lent (f .result .nodes) (next .nodes) work₁) (f .result .nodes) (next .nodes) a b
-      next-two st a b rest beside =
-          let below : (j : ℕ) → j < nodes a → Same work (0 + j) work₁ (0 + j) = λ j lt. loaded .kept (0 + j) (omega (arith, beside .counted)) in
-          two-lent work₁ inside (length (st .table)) (beside .offset) 0 (beside .counted) (loaded .counted b rest (beside .reads)) (at-move a work work₁ 0 0 (beside .offset) below (beside .stands))
-          (loaded .stands b rest (beside .reads)) (beside .left-fits) (beside .right-fits)
+    pub next-near : (at : ℕ) → at ≤ 2305843009213693955 → Near at (nodesAt work₁ (f .result .node) + nodesAt work₁ (f .free))
+    next-near at low = near-two (next-two (ready .setting) (ready .a) (ready .b) (ready .rest) (ready .beside)) at low
 
-      pub next-merges : Ready table places (lent (f .result .nodes) (next .nodes) work₁) (f .result .nodes) (next .nodes)
-      next-merges = ready-lent (ready .beside .known) (next-two (ready .setting) (ready .a) (ready .b) (ready .rest) (ready .beside)) (omega (arith, next-few))
-
-      -- the finger is about records that are as they were
-      pub next-finger : Finger (lent (f .result .nodes) (next .nodes) work₁) 0 (f .result .nodes) (f .result .finger)
-      next-finger =
-          let all : (f .result .nodes + next .nodes) * 32 - 0 ≡ (f .result .nodes + next .nodes) * 32 = omega arith in
-          rw all (finger-move work₁ (take ((f .result .nodes + next .nodes) * 32) work₁) 0 0 (f .result .nodes) (f .result .finger) (λ j lt. same-take work₁ (f .result .nodes + next .nodes) (0 + j) (omega arith))
-          (finger-move work work₁ 0 0 (f .result .nodes) (f .result .finger) (λ j lt. loaded .kept (0 + j) (omega arith)) (ready .finger)))
-
-      -- the part's records are the work area's once it is back
-      result-back : (s′ : List ℕ) {n : ℕ} → length s′ ≡ length (lent (f .result .nodes) (next .nodes) work₁) → n ≤ f .result .nodes + next .nodes
-          → SameRun s′ 0 (back (f .result .nodes) (next .nodes) s′ work₁) 0 n
-      result-back s′ long few j lt =
-          let two = next-two (ready .setting) (ready .a) (ready .b) (ready .rest) (ready .beside) in
-          same-left s′ (drop ((f .result .nodes + next .nodes) * 32 - 0) work₁) (f .result .nodes + next .nodes) (0 + j) (omega (arith, two .len)) (omega arith)
-
-      module _ {s′ : List ℕ} (i : ℕ) {rep rep₁ rep₂ : List ℕ} {at : ℕ} (r : Outcome) (long : length s′ ≡ length (lent (f .result .nodes) (next .nodes) work₁))
-          (placed : Placed merging table places (lent (f .result .nodes) (next .nodes) work₁) (f .result .nodes) (next .nodes) s′ (r .refusal) (r .nodes) (r .pairings) rep₁ at rep₂ (r .at))
-          (fingered : Fingered s′ r) where
-        pub next-folded : {p at′ : ℕ} → p ≡ (f .result .pairings + r .pairings) % 2 ^ 32
-            → ((w : List ℕ) → length w < 2 ^ 61 → Emitted rep₁ at w rep₂ (r .at) → Emitted rep (f .result .at) (ofNode i w) rep₂ at′)
-            → NextFolded table places list i f work rep (back (f .result .nodes) (next .nodes) s′ work₁) rep₂ (record { end = next .end; result = record { refusal = r .refusal; nodes = r .nodes; pairings = p; at = at′; finger = r .finger } })
-        unfolding merging
-        next-folded {p} {at′} sum report = record {
-          merged = λ st a b rest beside. go st a b rest beside (mergeMem st a b) refl (placed .done st (beside .known) a b (next-two st a b rest beside));
-          behind = loaded .behind;
-          within = loaded .within;
-          finger = λ is0. finger-move s′ (back (f .result .nodes) (next .nodes) s′ work₁) 0 0 (r .nodes) (r .finger) (result-back s′ long (placed .few)) (fingered .of is0);
-        }
-          where
-            go : (st : Setting) (a b : Usage) (rest : List ℕ) → Beside table places list f work st a b rest → (x : Result Usage) → mergeMem st a b ≡ x
-                → Done (merging st a b) s′ (r .refusal) (r .nodes) (r .pairings) rep₁ at rep₂ (r .at)
-                → Done (ofNext i (f .result .pairings) x) (back (f .result .nodes) (next .nodes) s′ work₁) (r .refusal) (r .nodes) p rep (f .result .at) rep₂ at′
-            go st a b rest beside (refused n) e D = rw e at D
-            go st a b rest beside (done u w q) e D =
-                let F : Fine u w q s′ (r .refusal) (r .nodes) (r .pairings) rep₁ at rep₂ (r .at) = rw e at D in
-                let few = mergeMem-few st {m = nodeLimit} a b e (omega (arith, next-few, beside .counted, loaded .counted b rest (beside .reads))) in
-                record {
-                  answered = F .answered;
-                  offset = F .offset;
-                  stands = at-move u s′ (back (f .result .nodes) (next .nodes) s′ work₁) 0 0 (F .offset) (result-back s′ long (omega (arith, F .count, placed .few))) (F .stands);
-                  count = F .count;
-                  pairs = omega (arith, F .pairs);
-                  report = report w (omega (arith, few .short-report)) (F .report);
-                }
+    module _ {work₂ : List ℕ} (i : ℕ) {rep rep₁ rep₂ : List ℕ} {at : ℕ} (r : Outcome)
+        (placed : Placed merging table places work₁ (f .result .node) (f .free) work₂ (r .refusal) (r .node) (r .pairings) rep₁ at rep₂ (r .at)) where
+      pub next-folded : {p at′ : ℕ} → p ≡ (f .result .pairings + r .pairings) % 2 ^ 32
+          → ((w : List ℕ) → length w < 2 ^ 61 → Emitted rep₁ at w rep₂ (r .at) → Emitted rep (f .result .at) (ofNode i w) rep₂ at′)
+          → NextFolded table places list i f work rep work₂ rep₂ (record { end = next .end; free = f .free + next .nodes; result = record { refusal = r .refusal; node = r .node; pairings = p; at = at′ } })
+      unfolding merging
+      next-folded {p} {at′} sum report = record {
+        merged = λ st a b rest B. go st a b rest B (mergeMem st a b) refl (placed .done st (B .known) a b (B .rank) 1 (f .free) (f .free + nodes b) (next-two st a b rest B));
+        free = λ b rest e. omega (arith, loaded .counted b rest e);
+        behind = loaded .behind;
+        within = loaded .within;
+      }
+        where
+          go : (st : Setting) (a b : Usage) (rest : List ℕ) (B : Beside table places list f work st a b rest) (x : Result Usage) → mergeMem st a b ≡ x
+              → Done (merging st a b) (ground work₁ (B .rank) 1 (f .free + nodes b) rep₁ at) work₂ (r .refusal) (r .node) (r .pairings) rep₂ (r .at)
+              → NextDone (ofNext i (f .result .pairings) x) work₂ rep (f .result .at) rep₂ (record { end = next .end; free = f .free + next .nodes; result = record { refusal = r .refusal; node = r .node; pairings = p; at = at′ } })
+          go st a b rest B (refused n) e D = rw e at D
+          go st a b rest B (done u w q) e D =
+              let F : Answered u w q (ground work₁ (B .rank) 1 (f .free + nodes b) rep₁ at) work₂ (r .refusal) (r .node) (r .pairings) rep₂ (r .at) = rw e at D in
+              let few = mergeMem-few st {m = nodeLimit} a b e (B .few) in
+              let n : nodes b ≡ next .nodes = loaded .counted b rest (B .reads) in
+              record {
+                answered = F .answered;
+                rank = F .rank;
+                stands = subst (λ (m : ℕ). Stands u work₂ (r .node) (F .rank) 1 (f .free + m)) n (F .stands);
+                fresh = λ j le. F .kept .outs j (λ low high. omega (arith, B .fresh j (omega arith))) .1 ∙ B .fresh j (omega arith);
+                pairs = omega (arith, F .pairs);
+                report = report w (omega (arith, few .short-report)) (F .report);
+              }

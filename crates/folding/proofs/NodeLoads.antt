@@ -7,9 +7,8 @@ use native.Mathlib.Omega.{arith}
 use lib.ListN.{drop}
 use Rattle.definitions.specs.Usage.{Usage, nodes}
 use Rattle.definitions.specs.Stream.{broken, read, readNode}
-use Rattle.records.specs.Usages.{At}
 use Rattle.stream.specs.Found.{NodeAt}
-use Rattle.transfer.specs.Loading.{Loadable, Loaded}
+use Rattle.transfer_in.specs.Loading.{Loadable, Loaded}
 use Rattle.folding.specs.Folding.{NodeReady, NodeLoaded}
 
 module _ {list : List ℕ} {at : ℕ} {work : List ℕ} {q : ℕ} (ready : NodeReady list at work q) where
@@ -28,11 +27,12 @@ module _ {list : List ℕ} {at : ℕ} {work : List ℕ} {q : ℕ} (ready : NodeR
           rest = ready .rest;
           reads = ready .reads;
           many = many;
+          some = ready .some;
           inside = omega (arith, ready .inside);
-          small = omega (arith, ready .small);
+          few = omega (arith, ready .few);
         }
 
-    pub node-loaded : {work′ : List ℕ} {r : ℕ} → Loaded At list at work q work′ r → NodeLoaded list at work q work′ (record { nodes = n; end = end })
+    pub node-loaded : {work′ : List ℕ} {r : ℕ} → Loaded list at work q work′ r → NodeLoaded list at work q work′ (record { nodes = n; end = end })
     node-loaded loaded = record {
       stands = loaded .stands;
       counted = counted;

@@ -5,17 +5,18 @@ ghost use Rattle.definitions.specs.Stream.{bytes};
 ghost use Rattle.report.specs.Emitted.{Emitted};
 ghost use Rattle.folding.specs.Folding.{NodeReady, NodeLoaded, NextReady, NextFolded, FoldReady, AllFolded};
 use analyze::merge_mem;
+use numbers::number;
+use place_states::Outcome;
 use qptr::Command;
-use records::number;
-use states::Outcome;
 use stream::Span;
 
 // The command of a list.
 const LIST: u8 = 0x0B;
 
-// How far a fold has come: the nodes up to this place of the list are the usage from record 0 on.
+// How far a fold has come: the nodes up to this place of the list have become the result, and records from `free` on are not in use.
 struct Folded {
     end: usize,
+    free: usize,
     result: Outcome,
 }
 
@@ -34,20 +35,22 @@ fn of_node(rep: &mut [u8], at: usize, i: usize) -> usize
     report::byte(rep, high, (i / 256 % 256) as u8)
 }
 
-// The node at `at` comes to the records from q on. The list was accepted, so there is one.
+// The node at `at` comes to the records from q on. The list was accepted, so there is one, and it has at most 512 nodes: a window of
+// eight levels does, and takes no time to clear.
 fn load_node(list: &[u8], at: usize, work: &mut [u8], q: usize) -> Loaded
     requires { ⌜ NodeReady (now list) at (now work) q ⌝ }
     ensures { λ r. ⌜ NodeLoaded (now (list .entry)) at (now (work .entry)) q (now (work .exit)) r ⌝ }
 {
+    let mut window = [0u8; 48];
     let Span::Node {
         end,
         nodes,
         types: _,
-    } = stream::node(list, at)
+    } = stream::node(list, at, &mut window)
     else {
         return Loaded { nodes: 0, end: at };
     };
-    transfer::load(list, at, nodes, work, q);
+    transfer_in::load(list, at, nodes, work, q);
     Loaded { nodes, end }
 }
 
@@ -65,33 +68,23 @@ fn fold_next(
     requires { ⌜ NextReady (now table) (now places) (now list) f (now work) ⌝ }
     ensures { λ r. ⌜ NextFolded (now (table .entry)) (now (places .entry)) (now (list .entry)) i f (now (work .entry)) (now (rep .entry)) (now (work .exit)) (now (rep .exit)) r ⌝ }
 {
-    let n = f.result.nodes;
-    let next = load_node(list, f.end, work, n);
+    let q = f.free;
+    let next = load_node(list, f.end, work, q);
     let at = of_node(rep, f.result.at, i);
-    let e = (n + next.nodes) * 32;
-    let r = merge_mem(
-        table,
-        places,
-        &mut work[0..e],
-        n,
-        next.nodes,
-        rep,
-        at,
-        f.result.finger,
-    );
+    let r = merge_mem(table, places, work, f.result.node, q, rep, at);
     Folded {
         end: next.end,
+        free: q + next.nodes,
         result: Outcome {
             refusal: r.refusal,
-            nodes: r.nodes,
+            node: r.node,
             pairings: std::num::wrapping_add_u32(f.result.pairings, r.pairings),
             at: if r.at == at { f.result.at } else { r.at },
-            finger: r.finger,
         },
     }
 }
 
-// The nodes of a list that was accepted, merged one after the other from record 0 on.
+// The nodes of a list that was accepted, merged one after the other.
 pub fn fold_nodes(
     table: &[u8],
     places: &[u32],
@@ -104,15 +97,15 @@ pub fn fold_nodes(
 {
     let width = Command::of(LIST).argument as usize;
     let count = number(list, 1, width) as usize;
-    let first = load_node(list, 1 + width, work, 0);
+    let first = load_node(list, 1 + width, work, 1);
     let mut f = Folded {
         end: first.end,
+        free: 1 + first.nodes,
         result: Outcome {
             refusal: 0,
-            nodes: first.nodes,
+            node: 1,
             pairings: 0,
             at: 0,
-            finger: 0,
         },
     };
     let mut i = 1;

@@ -12,8 +12,8 @@ use lib.Seq.{drop-drop}
 use Rattle.definitions.specs.If.{if_then_else_}
 use Rattle.definitions.specs.Stream.{broken, whole}
 use Rattle.definitions.proofs.Choice.{either}
-use Rattle.records.specs.Words.{word}
-use Rattle.records.proofs.Numbers.{number-at, number-short}
+use Rattle.numbers.specs.Words.{word}
+use Rattle.numbers.proofs.Numbers.{number-at, number-short}
 use Rattle.stream.proofs.Wholes.{whole-all, whole-not}
 use Rattle.frame.specs.Frame.{inputLimit, readBlock, readBlocks, blocksOf}
 use Rattle.frame.specs.Places.{BlockAt, BlocksAt}

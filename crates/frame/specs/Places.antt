@@ -6,7 +6,7 @@ use mathlib.Core.List.{List}
 use mathlib.Core.Option.{none as nothing, some}
 use lib.ListN.{length, take, drop}
 use Rattle.definitions.specs.Stream.{broken, read}
-use Rattle.records.specs.Words.{word}
+use Rattle.numbers.specs.Words.{word}
 use Rattle.frame.specs.Frame.{Blocks, readBlock, blocksOf}
 use Rattle.frame.specs.declared.End.{End}
 use Rattle.frame.specs.declared.End.the-variants as ends

@@ -9,7 +9,7 @@ ghost use Rattle.frame.specs.Frame.{digitsIn, digits, hexDigit, hexDigit
 ghost use Rattle.frame.specs.Places.{Ends, Framed};
 ghost use Rattle.frame.specs.Answered.{written};
 use answers::Answer;
-use records::get32;
+use numbers::get32;
 
 // The longest input.
 const INPUT: usize = 65536;

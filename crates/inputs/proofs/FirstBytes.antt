@@ -17,9 +17,9 @@ use Rattle.definitions.specs.Place.{done, unlike, merge}
 use Rattle.definitions.proofs.Written.{Bytes}
 use Rattle.definitions.proofs.Numbers.{bytes-length}
 use Rattle.definitions.proofs.Rounds.{top-written}
-use Rattle.records.specs.Words.{Width, numberAt}
-use Rattle.records.proofs.Numbers.{number-is}
-use Rattle.records.proofs.Widths.{argument-width}
+use Rattle.numbers.specs.Words.{Width, numberAt}
+use Rattle.numbers.proofs.Numbers.{number-is}
+use Rattle.numbers.proofs.Widths.{argument-width}
 use Rattle.inputs.specs.Tops.{OpaqueFirst, Conflicts}
 
 abbrev pub firstByte : Top → ℕ

@@ -11,7 +11,8 @@ use Rattle.definitions.specs.Limits.{nodeLimit, workLimit}
 use Rattle.definitions.specs.Usage.{Usage, nodes}
 use Rattle.definitions.specs.Stream.{read, readNode}
 use Rattle.definitions.specs.Table.{Table, tableOf}
-use Rattle.records.specs.Usages.{At}
+use Rattle.links.specs.Standing.{Stands}
+use Rattle.transfer_in.specs.Loading.{itself}
 use Rattle.layout.specs.Places.{Places}
 use Rattle.stream.specs.declared.Found.{Found}
 use Rattle.stream.specs.declared.Found.the-variants.{Stream, Broken}
@@ -59,10 +60,10 @@ pub record Both (first : List ℕ) (na : ℕ) (second : List ℕ) (nb : ℕ) (wo
   pub right-reads : readNode (drop 1 second) ≡ read b []
   pub left-nodes : nodes a ≡ na
   pub right-nodes : nodes b ≡ nb
-  pub inside : (na + nb) * 32 ≤ length work
-  pub small : na + nb ≤ 65536
+  pub inside : (1 + na + nb) * 32 ≤ length work
+  pub few : 1 + na + nb ≤ 65536
 
--- they stand side by side from record 0 on
+-- they are records 1 and 1 + na, ranked by their numbers
 pub record BothLoaded (first : List ℕ) (na : ℕ) (second : List ℕ) (nb : ℕ) (work work′ : List ℕ) : Type 0 where
-  pub left : (a : Usage) → readNode (drop 1 first) ≡ read a [] → nodes a ≡ na → At a work′ 0 0
-  pub right : (b : Usage) → readNode (drop 1 second) ≡ read b [] → At b work′ na 0
+  pub left : (a : Usage) → readNode (drop 1 first) ≡ read a [] → nodes a ≡ na → Stands a work′ 1 itself 1 (1 + na)
+  pub right : (b : Usage) → readNode (drop 1 second) ≡ read b [] → nodes b ≡ nb → Stands b work′ (1 + na) itself (1 + na) (1 + na + nb)

@@ -11,8 +11,8 @@ use answers::BAD_TABLE;
 use answers::MANY_NODES;
 use answers::SHORT_WORK;
 use answers::UNKNOWN_TYPE;
+use numbers::number;
 use qptr::Command;
-use records::number;
 use stream::Found;
 
 // The bytes of a work area, and the nodes of all inputs together: `workLimit` and `nodeLimit`, which the contracts hold them to.
@@ -86,13 +86,13 @@ pub fn accept(table: &[u8], work: &[u8], places: &mut [u32], a: Found, b: Found)
     }
 }
 
-// The two usages stand side by side from record 0 on.
+// The two usages are records 1 and 1 + na. Record 0 stands for none.
 pub fn load_both(first: &[u8], na: usize, second: &[u8], nb: usize, work: &mut [u8])
     requires { ⌜ Both (now first) na (now second) nb (now work) ⌝ }
     ensures { λ r. ⌜ BothLoaded (now (first .entry)) na (now (second .entry)) nb (now (work .entry)) (now (work .exit)) ⌝ }
 {
-    transfer::load(first, 1, na, work, 0);
-    transfer::load(second, 1, nb, work, na);
+    transfer_in::load(first, 1, na, work, 1);
+    transfer_in::load(second, 1, nb, work, 1 + na);
 }
 
 // An Opaque and another top: a conflict, unless they are the same Opaque.

@@ -14,7 +14,7 @@ use borrow.Author.Tests.{lt-ltb, le-ltb, not-true, not-false}
 use Rattle.definitions.specs.If.{if_then_else_}
 use Rattle.definitions.specs.Stream.{broken, read}
 use Rattle.definitions.specs.Table.{Table, TypeLayout as Layout, failed, readLayout, readRecords, readTable, admitted, tableOf}
-use Rattle.records.proofs.Numbers.{number-at, number-short}
+use Rattle.numbers.proofs.Numbers.{number-at, number-short}
 use Rattle.layout.specs.Bytes.{recordCount}
 use Rattle.layout.specs.Values.{Whole, Ended, Ends}
 use Rattle.layout.specs.Places.{Places, Stand, Admitted, Room, Found, Accepted}

@@ -10,8 +10,8 @@ use borrow.Author.Tests.{ne-eqb, le-ltb}
 use Rattle.definitions.specs.If.{if_then_else_}
 use Rattle.definitions.specs.Stream.{read}
 use Rattle.definitions.specs.Table.{scalar, elements, fields, TypeLayout, concrete, handle, failed, readLayout}
-use Rattle.records.specs.Words.{numberAt, word}
-use Rattle.records.proofs.Numbers.{number-at}
+use Rattle.numbers.specs.Words.{numberAt, word}
+use Rattle.numbers.proofs.Numbers.{number-at}
 use Rattle.layout.specs.Bytes.{fieldsAt}
 use Rattle.layout.specs.Values.{Ended}
 use Rattle.layout.proofs.Fields.{fields-read}

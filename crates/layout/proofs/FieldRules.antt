@@ -10,7 +10,7 @@ use lib.Dec.{leb, eqb}
 use borrow.Author.Tests.{le-leb, lt-leb, eq-eqb, ne-eqb, not-true, not-false}
 use Rattle.definitions.specs.Limits.{max32}
 use Rattle.definitions.specs.Table.{Table, Field, layoutOf, isConcrete, fixedSize, isDynamic, isEmpty, fieldsAdmitted}
-use Rattle.records.specs.Words.{word}
+use Rattle.numbers.specs.Words.{word}
 use Rattle.layout.specs.Bytes.{fieldsAt}
 use Rattle.layout.specs.Places.{Placed, Says, Stand, Earlier, FieldsAdmitted}
 use Rattle.layout.proofs.Fields.{fields-next}

@@ -7,8 +7,8 @@ use mathlib.Core.List.{List, _∷_}
 use lib.ListN.{length, drop}
 use Rattle.definitions.specs.Stream.{Read, broken, read, _then_}
 use Rattle.definitions.specs.Table.{Field, readFields}
-use Rattle.records.specs.Words.{word}
-use Rattle.records.proofs.Numbers.{number-at, number-then}
+use Rattle.numbers.specs.Words.{word}
+use Rattle.numbers.proofs.Numbers.{number-at, number-then}
 use Rattle.layout.specs.Bytes.{fieldsAt}
 
 pub fields-read : (s : List ℕ) (k i j : ℕ) → i + k * 8 ≡ j → j ≤ length s → readFields k (drop i s) ≡ read (fieldsAt s i k) (drop j s)

@@ -10,7 +10,7 @@ use borrow.Author.Tests.{le-leb, lt-leb}
 use Rattle.definitions.specs.If.{if_then_else_}
 use Rattle.definitions.specs.Table.{Setting, fields, fixedSize, isDynamic}
 use Rattle.definitions.specs.Containment.{inFields}
-use Rattle.records.specs.Words.{word}
+use Rattle.numbers.specs.Words.{word}
 use Rattle.layout.specs.Bytes.{fieldsAt}
 use Rattle.layout.specs.Places.{Placed, InTable, Says}
 use Rattle.layout.specs.Containing.{containingFrom, Contains, FieldType, FieldsInTable, InFields}

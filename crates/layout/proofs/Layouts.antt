@@ -5,7 +5,7 @@ use native.Mathlib.Omega.{arith}
 use mathlib.Core.Path.{_≡_, refl}
 use mathlib.Core.List.{List}
 use lib.ListN.{length, getD}
-use Rattle.records.specs.Words.{numberAt, word}
+use Rattle.numbers.specs.Words.{numberAt, word}
 use Rattle.layout.specs.Values.{layoutIn, Whole, Reads}
 use Rattle.layout.specs.declared.Components.the-variants.{Scalar, Elements, Fields}
 use Rattle.layout.specs.declared.TypeLayout.{TypeLayout}

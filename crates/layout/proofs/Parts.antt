@@ -9,7 +9,7 @@ use lib.Dec.{leb}
 use lib.ListN.{length, take, length-take}
 use Rattle.definitions.specs.Limits.{max32}
 use Rattle.definitions.specs.Table.{Table, Field, layoutOf, isConcrete, fixedSize, isDynamic, isEmpty, fieldsAdmitted}
-use Rattle.records.specs.Words.{word}
+use Rattle.numbers.specs.Words.{word}
 use Rattle.layout.specs.Bytes.{fieldsAt}
 use Rattle.layout.proofs.Clash.{clash}
 use Rattle.layout.proofs.Types.{concrete-in}

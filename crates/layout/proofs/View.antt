@@ -13,8 +13,8 @@ use borrow.Author.Tests.{eqb-true, eqb-false, ltb-false}
 use Rattle.definitions.proofs.Choice.{decide}
 use Rattle.definitions.specs.Stream.{Read, broken, read, _then_}
 use Rattle.definitions.specs.Table.{Components, scalar, elements, fields, TypeLayout, concrete, handle, failed, readComponents, readLayout}
-use Rattle.records.specs.Words.{numberAt, word}
-use Rattle.records.proofs.Numbers.{number-then}
+use Rattle.numbers.specs.Words.{numberAt, word}
+use Rattle.numbers.proofs.Numbers.{number-then}
 use Rattle.layout.specs.Bytes.{fieldsAt}
 use Rattle.layout.proofs.Fields.{fields-then}
 

@@ -3,7 +3,7 @@
 use Prim.Native.Nat.{ℕ, zero, suc, _+_}
 use mathlib.Core.List.{List, [], _∷_}
 use Rattle.definitions.specs.Table.{Field}
-use Rattle.records.specs.Words.{numberAt, word}
+use Rattle.numbers.specs.Words.{numberAt, word}
 
 abbrev pub recordCount : List ℕ → ℕ
 recordCount s = numberAt 2 s 0

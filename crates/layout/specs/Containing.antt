@@ -9,7 +9,7 @@ use lib.Dec.{leb}
 use lib.ListN.{length, drop}
 use Rattle.definitions.specs.Table.{Table, Setting, Components as Parts, scalar, elements, fields, concrete, layoutOf, fixedSize, isDynamic}
 use Rattle.definitions.specs.Containment.{Inside, inElements, inFields}
-use Rattle.records.specs.Words.{word}
+use Rattle.numbers.specs.Words.{word}
 use Rattle.layout.specs.Bytes.{fieldsAt}
 use Rattle.layout.specs.Places.{Placed, Places, InTable}
 use Rattle.layout.specs.declared.Field.{Field}

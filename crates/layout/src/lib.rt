@@ -3,7 +3,7 @@ ghost use mathlib.Core.Path.{_≡_};
 ghost use mathlib.Core.Bool.{true};
 ghost use Prim.Native.Nat.{_+_, _*_, _<_, _≤_};
 ghost use lib.ListN.{length, getD};
-ghost use Rattle.records.specs.Words.{word};
+ghost use Rattle.numbers.specs.Words.{word};
 ghost use Rattle.definitions.specs.Table.{isConcrete, fixedSize, isDynamic};
 ghost use Rattle.definitions.specs.Containment.{endOf, atLength, elementSize};
 ghost use Rattle.qptr.specs.Values.{sizeOf};
@@ -11,9 +11,9 @@ ghost use Rattle.layout.specs.Bytes.{recordCount};
 ghost use Rattle.layout.specs.Values.{Whole, Reads, Ends};
 ghost use Rattle.layout.specs.Places.{Room, Accepted, InTable, LayoutIs, Says, Standing, Earlier, FieldsAdmitted, Admitted};
 ghost use Rattle.layout.specs.Containing.{sizeIn, InElements, Contains, FieldsInTable, InFields, Finds};
+use numbers::get32;
+use numbers::number;
 use qptr::MaxSize;
-use records::get32;
-use records::number;
 
 // How many records a table may have, and how many fields one of them.
 pub const RECORDS: usize = 1024;

@@ -2,7 +2,7 @@
 ghost use Rattle.replaying.specs.Parts.{Single};
 ghost use Rattle.replay.specs.Within.{Within};
 use libc::STDOUT_FILENO;
-use records::get32;
+use numbers::get32;
 use replaying::Ran;
 
 enum Number {

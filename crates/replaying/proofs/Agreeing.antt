@@ -9,7 +9,7 @@ use borrow.Author.Tests.{ne-eqb}
 use lib.ListN.{length, getD}
 use Rattle.definitions.specs.If.{if_then_else_}
 use Rattle.definitions.specs.Calls.{Answer as Told, receiverCall, supportsCall, placeCall, mergeCall, foldCall, soundCall}
-use Rattle.records.specs.Words.{word}
+use Rattle.numbers.specs.Words.{word}
 use Rattle.answers.specs.Answers.{answerOf}
 use Rattle.answers.specs.Writing.{Gives}
 use Rattle.answers.specs.declared.Answer.{Answer}

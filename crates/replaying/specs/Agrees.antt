@@ -9,7 +9,7 @@ use lib.Dec.{eqb}
 use lib.ListN.{length, getD, replicate}
 use Rattle.definitions.specs.If.{if_then_else_}
 use Rattle.definitions.specs.Calls.{Answer, Written, receiverCall, supportsCall, placeCall, mergeCall, foldCall, soundCall}
-use Rattle.records.specs.Words.{word}
+use Rattle.numbers.specs.Words.{word}
 use Rattle.frame.specs.Places.{between}
 use Rattle.replaying.specs.Parts.{partsOf, Begins}
 use Rattle.replaying.specs.declared.Parts.{Parts}

@@ -5,7 +5,7 @@ use mathlib.Core.Path.{_≡_}
 use mathlib.Core.Bool.{Bool, true, false}
 use mathlib.Core.List.{List, _++_}
 use lib.ListN.{length, replicate}
-use Rattle.records.specs.Words.{word}
+use Rattle.numbers.specs.Words.{word}
 use Rattle.replaying.specs.declared.Parts.{Parts}
 use Rattle.replaying.specs.declared.Record.{Record}
 use Rattle.replaying.specs.declared.Record.the-variants as records

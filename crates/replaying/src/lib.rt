@@ -4,7 +4,7 @@ ghost use mathlib.Core.Path.{_≡_};
 ghost use Prim.Native.Nat.{_+_, _≤_};
 ghost use mathlib.Core.Bool.{true};
 ghost use lib.ListN.{length, getD, replicate};
-ghost use Rattle.records.specs.Words.{word};
+ghost use Rattle.numbers.specs.Words.{word};
 ghost use Rattle.answers.specs.Answers.{answerOf};
 ghost use Rattle.answers.specs.Writing.{Gives};
 ghost use Rattle.replaying.specs.Parts.{Begins, Fits, Sized, Whole, Reads, Single};
@@ -13,7 +13,7 @@ use answers::Answer;
 use check::same;
 use frame::End;
 use frame::block;
-use records::get32;
+use numbers::get32;
 
 // The longest work area and the longest buffer of a record.
 const WORK: u32 = 49160;

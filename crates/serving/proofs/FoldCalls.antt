@@ -7,6 +7,7 @@ use mathlib.Core.Option.{Option, none as nothing, some}
 use native.Mathlib.Omega.{arith}
 use borrow.Author.Tests.{le-leb}
 use lib.ListN.{length, replicate}
+use Rattle.definitions.specs.Limits.{workLimit}
 use Rattle.definitions.specs.Usage.{memory, Nodes, allNodes}
 use Rattle.definitions.specs.Stream.{writeTop, listOf}
 use Rattle.definitions.specs.Table.{Setting}
@@ -16,13 +17,14 @@ use Rattle.definitions.proofs.Written.{Bytes}
 use Rattle.definitions.proofs.ReadsBack.{list-storable}
 use Rattle.stream.specs.Found.{allBound, told}
 use Rattle.stream.specs.declared.Found.the-variants.{Stream}
-use Rattle.states.specs.declared.Outcome.{Outcome}
+use Rattle.place_states.specs.declared.Outcome.{Outcome}
 use Rattle.answers.specs.Answers.{answerOf}
 use Rattle.inputs.specs.Inputs.{Met}
 use Rattle.answers.specs.Writing.{Gives, Reachable, Finished}
 use Rattle.folding.specs.Folding.{Foldable, FoldReady, AllFolded}
 use Rattle.answers.specs.declared.Answer.{Answer}
 use Rattle.inputs.specs.declared.Inputs.{Inputs}
+use Rattle.serving.specs.Loaded.{ListGiven}
 use Rattle.inputs.proofs.Types.{all-types-in}
 use Rattle.inputs.proofs.Accepting.{one-body, one-refused, OneGoing, one-goes-on}
 
@@ -67,14 +69,18 @@ module _ (table : List ℕ) (work : ℕ) (list : List ℕ) where
             few = omega (arith, going .first-nodes, met .good is-0 .few);
           }
 
-      pub fold-ready : {bs : List ℕ} → work ≡ length bs → FoldReady table places list bs
-      fold-ready e = record { setting = setting; listed = going .first; foldable = foldable; enough = omega (arith, met .good is-0 .enough) }
+      pub fold-ready : {bs : List ℕ} → length bs ≡ workLimit → FoldReady table places list bs
+      fold-ready area = record { setting = setting; listed = going .first; foldable = foldable; area = area }
 
-      module _ {bs : List ℕ} {r : Outcome} {report : List ℕ} (all : AllFolded table places list bs r report) where
-        pub fold-reached : Reachable bs r report
-        fold-reached = record { result = fold setting (going .first); reached = all .of setting (going .first) foldable }
+      pub fold-given : (output rep : List ℕ) {a : Answer} {output′ rep′ : List ℕ} → ListGiven table places list output rep a output′ rep′
+          → Gives (foldCall table work list output (length rep)) a output′ rep′
+      fold-given output rep given = rw (call-is output (length rep) (going .goes)) (given .of setting (going .first) foldable)
 
-        pub fold-given : (output : List ℕ) (n : ℕ) {a : Answer} {output′ report′ : List ℕ} → n ≡ length report
-            → Finished 0x0A r bs output report a output′ report′ → Gives (foldCall table work list output n) a output′ report′
-        fold-given output n same finished =
-            rw (call-is output n (going .goes), same) (finished .of (fold setting (going .first)) (all .of setting (going .first) foldable))
+-- what was folded is given back
+module _ {table places list work : List ℕ} (ready : FoldReady table places list work) {work′ : List ℕ} {r : Outcome} {rep′ : List ℕ} (all : AllFolded table places list work′ r rep′) where
+  pub fold-reached : Reachable work′ r rep′
+  fold-reached = record { result = fold (ready .setting) (ready .listed); reached = all .of (ready .setting) (ready .listed) (ready .foldable) }
+
+  pub list-given : {output rep : List ℕ} {a : Answer} {output′ rep″ : List ℕ} → length rep′ ≡ length rep → Finished 0x0A r work′ output rep′ a output′ rep″
+      → ListGiven table places list output rep a output′ rep″
+  list-given long finished = record { of = λ st ns foldable. rw (← long) (finished .of (fold st ns) (all .of st ns foldable)) }

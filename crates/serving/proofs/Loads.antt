@@ -6,13 +6,13 @@ use native.Mathlib.Omega.{arith}
 use lib.ListN.{length}
 use Rattle.definitions.specs.Limits.{nodeLimit, workLimit}
 use Rattle.records.specs.Usages.{At}
-use Rattle.transfer.specs.Loading.{Loadable, Loaded}
+use Rattle.transfer_in.specs.Loading.{Loadable, Loaded}
 use Rattle.serving.proofs.Memories.{Memory}
 
 module _ {s : List ℕ} {n b : ℕ} (m : Memory s n b) {work : List ℕ} where
-  pub loadable : n ≤ nodeLimit → workLimit ≤ length work → Loadable s 1 n work 0
+  pub loadable : n ≤ nodeLimit → workLimit ≤ length work → Loadable s 1 n work 1
   loadable few enough =
-      record { usage = m .usage; rest = []; reads = m .reads; many = search; inside = omega arith; small = omega arith }
+      record { usage = m .usage; rest = []; reads = m .reads; many = search; some = omega arith; inside = omega arith; few = omega arith }
 
-  pub usage-at : {work′ : List ℕ} {end : ℕ} → Loaded At s 1 work 0 work′ end → At (m .usage) work′ 0 0
-  usage-at loaded = loaded .stands (m .usage) [] (m .reads)
+  pub usage-at : {work′ : List ℕ} {end : ℕ} → Loaded s 1 work 1 work′ end → At (m .usage) work′ 1 0
+  usage-at loaded = loaded .run (m .usage) [] (m .reads)

@@ -14,20 +14,20 @@ use Rattle.definitions.specs.Place.{Result, refused, done, under, mergeMem, unl
 use Rattle.definitions.specs.Calls.{withTable, refusal, written, mergeCall}
 use Rattle.definitions.proofs.Written.{Bytes}
 use Rattle.definitions.proofs.Rounds.{top-written}
-use Rattle.states.specs.Calls.{merging}
-use Rattle.states.specs.declared.Outcome.{Outcome}
+use Rattle.place_states.specs.Calls.{merging}
 use Rattle.stream.specs.Found.{topBound, told}
 use Rattle.stream.specs.declared.Found.{Found}
 use Rattle.answers.specs.Answers.{answerOf}
 use Rattle.inputs.specs.Inputs.{Good, Met}
 use Rattle.inputs.specs.Tops.{OpaqueFirst, Conflicts}
-use Rattle.answers.specs.Writing.{Gives, Reached, Finished, unlikeReport}
+use Rattle.answers.specs.Writing.{Gives, unlikeReport}
 use Rattle.answers.specs.declared.Answer.{Answer}
 use Rattle.inputs.specs.declared.Inputs.{Inputs}
 use Rattle.inputs.proofs.Types.{top-types-in}
 use Rattle.answers.proofs.Giving.{gives-kept}
 use Rattle.inputs.proofs.Accepting.{body, refused-by, Going, goes-on}
-use Rattle.serving.proofs.Pairs.{usable, Pair}
+use Rattle.serving.specs.Loaded.{Pair, PairGiven}
+use Rattle.serving.proofs.Pairs.{usable}
 use Rattle.inputs.proofs.FirstBytes.{firstByte, some-bytes, first-byte}
 
 -- what is told of a stream
@@ -160,10 +160,8 @@ module _ (table : List ℕ) (work : ℕ) (first second : List ℕ) where
                 is = rw (first-byte first bytes e) (under-both memory writeTop (mergeMem setting a b));
               }
 
-      pub merge-gives : {top : ℕ} (k : ReadMerged top) {r : Outcome} {s rep : List ℕ} (output : List ℕ) (n : ℕ) {a : Answer} {output′ rep′ : List ℕ} → length rep ≡ n
-          → Reached (merging setting (k .pair .a) (k .pair .b)) s r rep
-          → Finished top r s output rep a output′ rep′
-          → Gives (mergeCall table work first second output n) a output′ rep′
+      pub merge-gives : {top : ℕ} (k : ReadMerged top) (output rep : List ℕ) {a : Answer} {output′ rep′ : List ℕ} → PairGiven top merging table places first na second nb output rep a output′ rep′
+          → Gives (mergeCall table work first second output (length rep)) a output′ rep′
       unfolding merging
-      merge-gives k output n long reached finished =
-          rw (call-is output n, goes .goes ∙ k .is, ← long) (finished .of (mergeMem setting (k .pair .a) (k .pair .b)) reached)
+      merge-gives k output rep given =
+          rw (call-is output (length rep), goes .goes ∙ k .is) (given .of setting (record { read = good .is; placed = good .placed }) (k .pair) (good .few))

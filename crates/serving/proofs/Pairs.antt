@@ -1,38 +1,36 @@
--- Two usages that were read, with types of the table and few nodes: they are loaded into a part of the work area, where they are
--- ready to be placed one into the other, and what that leaves in the work area is what the definition gives.
+-- Two usages that were read, with types of the table and few nodes: they are loaded into the work area, where they are ready to be
+-- placed one into the other, and what that leaves in the work area is what the definition gives.
 -- Assumes nothing.
-use Prim.Native.Nat.{ℕ, _+_, _-_, _*_, _≤_}
-use mathlib.Core.Path.{_≡_, sym}
+use Prim.Native.Nat.{ℕ, _+_, _*_, _≤_}
+use mathlib.Core.Path.{_≡_, refl, sym}
 use mathlib.Core.List.{List, [], _∷_, append-nil}
 use native.Mathlib.Omega.{arith}
 use borrow.Author.Tests.{le-leb}
-use lib.ListN.{length, drop, length-append, length-drop}
+use lib.ListN.{length, take}
+use lib.Seq.{length-take-le}
+use Rattle.definitions.specs.Limits.{nodeLimit, workLimit}
 use Rattle.definitions.specs.Usage.{Usage, nodes}
-use Rattle.definitions.specs.Stream.{writeNode, read, readNode}
+use Rattle.definitions.specs.Stream.{writeNode}
 use Rattle.definitions.specs.Table.{Table, Setting}
 use Rattle.definitions.specs.Place.{Result}
-use Rattle.definitions.specs.Sound.{Storable}
 use Rattle.definitions.proofs.FewPairings.{place-few, mergeMem-few}
 use Rattle.definitions.proofs.Writable.{Writable}
 use Rattle.definitions.proofs.Storable.{known-storable}
 use Rattle.definitions.proofs.Rounds.{write-read}
-use Rattle.records.proofs.Parts.{same-left}
+use Rattle.links.specs.Rows.{nodesAt}
 use Rattle.layout.specs.Places.{Known}
 use Rattle.stream.specs.Found.{typeBound}
 use Rattle.stream.specs.declared.Found.{Found}
-use Rattle.states.specs.Calls.{Two, Ready, Placed, placing, merging}
-use Rattle.states.specs.declared.Outcome.{Outcome}
+use Rattle.transfer_in.specs.Loading.{itself}
+use Rattle.place_states.specs.Calls.{Two, Ready, Near, Placed, ground, placing, merging}
+use Rattle.place_states.specs.declared.Outcome.{Outcome}
 use Rattle.inputs.specs.Inputs.{Good, Both, BothLoaded}
-use Rattle.answers.specs.Writing.{Reached}
+use Rattle.answers.specs.Writing.{Reached, Reachable, Finished}
+use Rattle.answers.specs.declared.Answer.{Answer}
 use Rattle.inputs.proofs.Types.{types-in}
+use Rattle.inputs.proofs.Lending.{ready-two, near-two}
 use Rattle.answers.proofs.Reaching.{FewIn, reached}
-use Rattle.inputs.proofs.Lending.{two-lent, ready-lent}
-pub use Rattle.inputs.proofs.Lending.{lent, back}
-
--- behind its first byte, bs is u, with types of the table t
-pub record Usable (t : Table) (bs : List ℕ) (u : Usage) : Type 0 where
-  pub reads : readNode (drop 1 bs) ≡ read u []
-  pub fits : Storable (length t) u
+use Rattle.serving.specs.Loaded.{Usable, Pair, PairReady, PairGiven}
 
 pub usable : (t : Table) {bs : List ℕ} (c : ℕ) {u : Usage} → bs ≡ c ∷ writeNode u → Writable u → typeBound u ≤ length t → Usable t bs u
 usable t c {u} e fits known = record {
@@ -40,61 +38,72 @@ usable t c {u} e fits known = record {
   fits = known-storable t u fits (rw (types-in t u) (le-leb (typeBound u) (length t) known));
 }
 
--- the usages of two streams, with so many nodes
-pub record Pair (t : Table) (first second : List ℕ) (na nb : ℕ) : Type 0 where
-  pub a : Usage
-  pub b : Usage
-  pub left : Usable t first a
-  pub right : Usable t second b
-  pub left-nodes : na ≡ nodes a
-  pub right-nodes : nb ≡ nodes b
+pub pair-ready : {table places : List ℕ} {size : ℕ} {x y : Found} {na nb : ℕ} (good : Good table size x y places na nb) {first second : List ℕ} → Pair (good .layouts) first second na nb
+    → {work : List ℕ} → length work ≡ workLimit → PairReady table places first na second nb work
+pair-ready good pair area = record {
+  setting = record { table = good .layouts };
+  known = record { read = good .is; placed = good .placed };
+  pair = pair;
+  few = good .few;
+  area = area;
+}
 
-module _ {table places : List ℕ} {size : ℕ} {x y : Found} {na nb : ℕ} (good : Good table size x y places na nb) {first second : List ℕ}
-    (pair : Pair (good .layouts) first second na nb) where
-  abbrev setting : Setting
-  setting = record { table = good .layouts }
+-- what placing and merging answer is made of few nodes
 
-  known : Known table places setting
-  known = record { read = good .is; placed = good .placed }
+pub placing-few : (offset : ℕ) (st : Setting) (a b : Usage) (n : ℕ) → nodes a + nodes b ≤ n → FewIn n (placing offset st a b)
+unfolding placing
+placing-few offset st a b n few u w p e = place-few st a offset b e few
 
-  pub both : {work : List ℕ} → length work ≡ size → Both first na second nb work
-  both same = record {
-    a = pair .a;
-    b = pair .b;
-    left-reads = pair .left .reads;
-    right-reads = pair .right .reads;
-    left-nodes = sym (pair .left-nodes);
-    right-nodes = sym (pair .right-nodes);
-    inside = omega (arith, good .enough, good .few);
-    small = omega (arith, good .few);
-  }
+pub merging-few : (st : Setting) (a b : Usage) (n : ℕ) → nodes a + nodes b ≤ n → FewIn n (merging st a b)
+unfolding merging
+merging-few st a b n few u w p e = mergeMem-few st a b e few
 
-  -- what placing and merging answer is made of few nodes
+-- the part of a work area that is lent
+pub area-lent : (work : List ℕ) {n : ℕ} → length work ≡ n → workLimit ≤ n → length (take workLimit work) ≡ workLimit
+area-lent work e enough = length-take-le workLimit work (omega arith)
 
-  pub placing-few : (offset : ℕ) → FewIn (na + nb) (placing offset setting (pair .a) (pair .b))
-  unfolding placing
-  placing-few offset u w p e = place-few setting (pair .a) offset (pair .b) e (omega (arith, pair .left-nodes, pair .right-nodes))
+module _ {table places first : List ℕ} {na : ℕ} {second : List ℕ} {nb : ℕ} {work : List ℕ} (ready : PairReady table places first na second nb work) where
+  pub both : Both first na second nb work
+  both =
+      let pair = ready .pair in
+      record {
+        a = pair .a;
+        b = pair .b;
+        left-reads = pair .left .reads;
+        right-reads = pair .right .reads;
+        left-nodes = sym (pair .left-nodes);
+        right-nodes = sym (pair .right-nodes);
+        inside = omega (arith, ready .few, ready .area);
+        few = omega (arith, ready .few);
+      }
 
-  pub merging-few : FewIn (na + nb) (merging setting (pair .a) (pair .b))
-  unfolding merging
-  merging-few u w p e = mergeMem-few setting (pair .a) (pair .b) e (omega (arith, pair .left-nodes, pair .right-nodes))
+  module _ {work₁ : List ℕ} (same : length work₁ ≡ length work) (loaded : BothLoaded first na second nb work work₁) where
+    two : (st : Setting) (pair : Pair (st .table) first second na nb) → Two (length (st .table)) work₁ 1 (1 + na) itself 1 (1 + na) (1 + na + nb) (pair .a) (pair .b)
+    two st pair = record {
+      left = loaded .left (pair .a) (pair .left .reads) (sym (pair .left-nodes));
+      right = loaded .right (pair .b) (pair .right .reads) (sym (pair .right-nodes));
+      left-fits = pair .left .fits;
+      right-fits = pair .right .fits;
+      few = omega (arith, ready .few, pair .left-nodes, pair .right-nodes);
+    }
 
-  module _ {work₀ work : List ℕ} (same : length work ≡ size) (loaded : BothLoaded first na second nb work₀ work) where
-    two : Two (length (good .layouts)) (lent na nb work) na nb (pair .a) (pair .b)
-    two =
-        two-lent work (omega (arith, good .enough, good .few)) (length (good .layouts)) 0 0 (sym (pair .left-nodes)) (sym (pair .right-nodes))
-        (loaded .left (pair .a) (pair .left .reads) (sym (pair .left-nodes))) (loaded .right (pair .b) (pair .right .reads)) (pair .left .fits) (pair .right .fits)
+    pub merges : Ready table places work₁ 1 (1 + na)
+    merges = ready-two (ready .setting) (two (ready .setting) (ready .pair)) (ready .known) (omega (arith, ready .area))
 
-    pub ready : Ready table places (lent na nb work) na nb
-    ready = ready-lent known two (omega (arith, good .few))
+    pub near : Near 0 (nodesAt work₁ 1 + nodesAt work₁ (1 + na))
+    near = near-two (two (ready .setting) (ready .pair)) 0 (omega arith)
 
-    pub reaches : (z : Setting → Usage → Usage → Result Usage) → FewIn (na + nb) (z setting (pair .a) (pair .b))
-        → (s : List ℕ) → length s ≡ length (lent na nb work) → (r : Outcome) {rep rep′ : List ℕ}
-        → Placed z table places (lent na nb work) na nb s (r .refusal) (r .nodes) (r .pairings) rep 0 rep′ (r .at)
-        → Reached (z setting (pair .a) (pair .b)) (back na nb s work) r rep′
-    reaches z small s len r {rep} {rep′} placed =
-        let long : length s ≡ (na + nb) * 32 = omega (arith, two .len) in
-        let whole : length (back na nb s work) ≡ size = simp (length-append, length-drop) (omega (arith, good .enough, good .few)) in
-        reached (na + nb) s (back na nb s work) (good .few) (omega (arith, good .enough))
-        (λ i lt. same-left s (drop ((na + nb) * 32 - 0) work) (na + nb) (0 + i) (omega arith) (omega arith))
-        (z setting (pair .a) (pair .b)) r rep rep′ small (placed .done setting known (pair .a) (pair .b) two)
+    module _ (z : Setting → Usage → Usage → Result Usage) (small : (st : Setting) (a b : Usage) (n : ℕ) → nodes a + nodes b ≤ n → FewIn n (z st a b)) {work₂ : List ℕ} {r : Outcome} {rep rep₂ : List ℕ}
+        (placed : Placed z table places work₁ 1 (1 + na) work₂ (r .refusal) (r .node) (r .pairings) rep 0 rep₂ (r .at)) where
+      reaches : (st : Setting) → Known table places st → (pair : Pair (st .table) first second na nb) → Reached (z st (pair .a) (pair .b)) work₂ r rep₂
+      reaches st known pair =
+          reached nodeLimit (omega arith) (ground work₁ itself 1 (1 + na + nb) rep 0) refl work₂ r rep₂ (z st (pair .a) (pair .b))
+          (small st (pair .a) (pair .b) nodeLimit (omega (arith, ready .few, pair .left-nodes, pair .right-nodes)))
+          (placed .done st known (pair .a) (pair .b) itself 1 (1 + na) (1 + na + nb) (two st pair))
+
+      pub reachable : Reachable work₂ r rep₂
+      reachable = record { result = z (ready .setting) (ready .pair .a) (ready .pair .b); reached = reaches (ready .setting) (ready .known) (ready .pair) }
+
+      pub given : {top : ℕ} {output : List ℕ} {a : Answer} {output′ rep₃ : List ℕ} → length rep₂ ≡ length rep → Finished top r work₂ output rep₂ a output′ rep₃
+          → PairGiven top z table places first na second nb output rep a output′ rep₃
+      given long finished = record { of = λ st known pair few. rw (← long) (finished .of (z st (pair .a) (pair .b)) (reaches st known pair)) }

@@ -11,19 +11,19 @@ use Rattle.definitions.specs.Place.{Result, under, place}
 use Rattle.definitions.specs.Calls.{withTable, refusal, written, placeCall}
 use Rattle.definitions.proofs.Written.{Bytes}
 use Rattle.definitions.proofs.Rounds.{memory-written}
-use Rattle.states.specs.Calls.{placing}
-use Rattle.states.specs.declared.Outcome.{Outcome}
+use Rattle.place_states.specs.Calls.{placing}
 use Rattle.stream.specs.Found.{typeBound, told}
 use Rattle.stream.specs.declared.Found.{Found}
 use Rattle.answers.specs.Answers.{answerOf}
 use Rattle.inputs.specs.Inputs.{Good, Met}
-use Rattle.answers.specs.Writing.{Gives, Reached, Finished}
+use Rattle.answers.specs.Writing.{Gives}
 use Rattle.answers.specs.declared.Answer.{Answer}
 use Rattle.inputs.specs.declared.Inputs.{Inputs}
 use Rattle.inputs.proofs.Types.{types-in}
 use Rattle.answers.proofs.Giving.{gives-kept}
 use Rattle.inputs.proofs.Accepting.{body, refused-by, Going, goes-on}
-use Rattle.serving.proofs.Pairs.{usable, Pair}
+use Rattle.serving.specs.Loaded.{Pair, PairGiven}
+use Rattle.serving.proofs.Pairs.{usable}
 
 -- what is told of a stream
 abbrev pub toldMemory : List ℕ → Found
@@ -63,10 +63,8 @@ module _ (table : List ℕ) (work : ℕ) (first : List ℕ) (offset : ℕ) (seco
             right-nodes = goes .second-nodes;
           }
 
-      pub place-gives : {r : Outcome} {s rep : List ℕ} (output : List ℕ) (n : ℕ) {a : Answer} {output′ rep′ : List ℕ} → length rep ≡ n
-          → Reached (placing offset (record { table = good .layouts }) (place-pair .a) (place-pair .b)) s r rep
-          → Finished 0x0A r s output rep a output′ rep′
-          → Gives (placeCall table work first offset second output n) a output′ rep′
+      pub place-gives : (output rep : List ℕ) {a : Answer} {output′ rep′ : List ℕ} → PairGiven 0x0A (placing offset) table places first na second nb output rep a output′ rep′
+          → Gives (placeCall table work first offset second output (length rep)) a output′ rep′
       unfolding placing
-      place-gives output n long reached finished =
-          rw (call-is output n, goes .goes, ← long) (finished .of (place (record { table = good .layouts }) (goes .first) offset (goes .second)) reached)
+      place-gives output rep given =
+          rw (call-is output (length rep), goes .goes) (given .of (record { table = good .layouts }) (record { read = good .is; placed = good .placed }) place-pair (good .few))

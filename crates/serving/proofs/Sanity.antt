@@ -1,7 +1,7 @@
 -- A fold merges every node: of three nodes, merging the first two and keeping that is something else, and so is stopping at the first
 -- conflict. What is required of folding can be met, and a whole call is computed.
 -- Assumes nothing.
-use Prim.Native.Nat.{ℕ, zero, suc, _<_, _≤_}
+use Prim.Native.Nat.{ℕ, zero, suc, _<_}
 use mathlib.Core.Path.{_≡_, refl}
 use mathlib.Core.Bool.{true, false}
 use mathlib.Core.List.{List, [], _∷_, _++_}
@@ -66,9 +66,9 @@ placed zero l = record { kept = omega arith; rest = bytes 1 0x20 ++ bytes 4 4 ++
 placed (suc zero) l = record { kept = omega arith; rest = []; stands = refl; admits = refl }
 placed (suc (suc ty)) l = absurd (omega arith)
 
-ready : (work : List ℕ) → workLimit ≤ length work → FoldReady table (2 ∷ 11 ∷ []) list work
+ready : (work : List ℕ) → length work ≡ workLimit → FoldReady table (2 ∷ 11 ∷ []) list work
 unfolding table setting three list tableOf listOf readNode readNodeIn if_then_else_ commandAt
-ready work enough = record {
+ready work area = record {
   setting = setting;
   listed = three;
   foldable = record {
@@ -77,5 +77,5 @@ ready work enough = record {
     fits = ((omega arith, omega arith), ((omega arith, omega arith), ((omega arith, omega arith), tt)));
     few = omega arith;
   };
-  enough = enough;
+  area = area;
 }

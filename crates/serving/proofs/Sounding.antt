@@ -16,8 +16,7 @@ use Rattle.definitions.specs.Table.{tableOf}
 use Rattle.definitions.specs.Place.{done}
 use Rattle.definitions.specs.Sound.{sound}
 use Rattle.definitions.specs.Calls.{checked, refusal, said, soundCall}
-use Rattle.records.specs.Usages.{At}
-use Rattle.transfer.specs.Loading.{Loaded}
+use Rattle.transfer_in.specs.Loading.{Loaded}
 use Rattle.soundness.specs.Standing.{Standing, Tested}
 use Rattle.inputs.proofs.Types.{types-in}
 use Rattle.serving.proofs.Memories.{Memory}
@@ -57,10 +56,10 @@ module _ {table places : List ℕ} {work k : ℕ} (t : Begun table work places k
 
 -- The usage in the work area
 
-module _ {s : List ℕ} {n b : ℕ} (m : Memory s n b) {work work′ : List ℕ} {end : ℕ} (loaded : Loaded At s 1 work 0 work′ end) where
-  pub standing : n ≤ nodeLimit → workLimit ≤ length work′ → Standing work′ 0
+module _ {s : List ℕ} {n b : ℕ} (m : Memory s n b) {work work′ : List ℕ} {end : ℕ} (loaded : Loaded s 1 work 1 work′ end) where
+  pub standing : n ≤ nodeLimit → workLimit ≤ length work′ → Standing work′ 1
   standing few enough =
       record { usage = m .usage; offset = 0; stands = usage-at m loaded; inside = omega (arith, m .counted); few = omega (arith, m .counted) }
 
-  pub tested : {r : Bool} → Tested work′ 0 r → r ≡ sound (m .usage)
+  pub tested : {r : Bool} → Tested work′ 1 r → r ≡ sound (m .usage)
   tested t = t .of (m .usage) 0 (usage-at m loaded)

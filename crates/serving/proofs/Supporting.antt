@@ -1,7 +1,7 @@
 -- What `supports` answers, by what was found of the table and of the stream: the refusals in their order, then what is said of the
 -- usage that was loaded, which is the one that was read.
 -- Assumes nothing.
-use Prim.Native.Nat.{ℕ, _<_, _≤_}
+use Prim.Native.Nat.{ℕ, _+_, _<_, _≤_}
 use mathlib.Core.Path.{_≡_, sym}
 use mathlib.Core.Bool.{Bool, true, false, _&&_, not}
 use mathlib.Core.List.{List, []}
@@ -12,19 +12,19 @@ use lib.Dec.{ltb, leb}
 use lib.ListN.{length}
 use Rattle.definitions.specs.If.{if_then_else_}
 use Rattle.definitions.specs.Limits.{nodeLimit, workLimit}
+use Rattle.definitions.specs.Usage.{nodes}
 use Rattle.definitions.specs.Stream.{memoryOf}
 use Rattle.definitions.specs.Table.{Setting, layoutOf, isConcrete, tableOf}
 use Rattle.definitions.specs.Place.{done}
 use Rattle.definitions.specs.Support.{supports}
 use Rattle.definitions.specs.Calls.{refuseIf, refusal, said, supportsCall}
-use Rattle.records.specs.Usages.{At}
 use Rattle.layout.specs.Places.{Known, InTable, Says}
-use Rattle.transfer.specs.Loading.{Loaded}
+use Rattle.transfer_in.specs.Loading.{Loadable, Loaded, itself}
 use Rattle.support.specs.Known.{Askable}
 use Rattle.support.specs.Answers.{Supports}
 use Rattle.inputs.proofs.Types.{types-in}
+use Rattle.serving.specs.Loaded.{MemoryReady, MemorySupported}
 use Rattle.serving.proofs.Memories.{Memory}
-use Rattle.serving.proofs.Loads.{usage-at}
 use Rattle.inputs.proofs.Tables.{Begun}
 use Rattle.inputs.proofs.Refusals.{short-work, bad-table, good-table}
 
@@ -89,22 +89,51 @@ module _ {table places : List ℕ} {work k : ℕ} (t : Begun table work places k
         unfolding if_then_else_
         supports-said e few = rw (asked, lt-ltb ty k below, le-leb b k within, concrete-is below says, e, le-ltb nodeLimit n few)
 
-      -- the usage in the work area
+      -- the usage that is loaded
 
-      module _ {bs bs′ : List ℕ} {end : ℕ} (loaded : Loaded At s 1 bs 0 bs′ end) where
-        pub askable : n ≤ nodeLimit → workLimit ≤ length bs′ → Askable table places ty bs′ 0
-        askable few enough =
-            record {
-              type = record { setting = setting; known = known; below = omega (arith, t .counted) };
-              usage =
-                  record {
-                    usage = m .usage;
-                    offset = 0;
-                    at = usage-at m loaded;
-                    within = omega (arith, m .counted);
-                    few = omega (arith, m .counted);
-                  };
-            }
+      pub memory-ready : n ≤ nodeLimit → {bs : List ℕ} → length bs ≡ workLimit → MemoryReady table places ty s n bs
+      memory-ready few area = record {
+        setting = setting;
+        known = known;
+        below = omega (arith, t .counted);
+        usage = m .usage;
+        reads = m .reads;
+        many = omega (arith, m .counted);
+        few = few;
+        area = area;
+      }
 
-        pub supported : {r : Bool} → Supports table places ty offset bs′ 0 r → r ≡ supports setting ty offset (m .usage)
-        supported says = says .is setting known (omega (arith, t .counted)) (m .usage) 0 (usage-at m loaded)
+      pub supported : {r : Bool} → MemorySupported table places ty offset s r → r ≡ supports setting ty offset (m .usage)
+      supported says = says .is setting known (omega (arith, t .counted)) (m .usage) (m .reads)
+
+-- it stands in the work area, and is asked about there
+module _ {table places : List ℕ} {ty : ℕ} {s : List ℕ} {n : ℕ} {work : List ℕ} (ready : MemoryReady table places ty s n work) where
+  pub memory-loadable : Loadable s 1 n work 1
+  memory-loadable = record {
+    usage = ready .usage;
+    rest = [];
+    reads = ready .reads;
+    many = ready .many;
+    some = omega arith;
+    inside = omega (arith, ready .few, ready .area);
+    few = omega (arith, ready .few);
+  }
+
+  module _ {work′ : List ℕ} {end : ℕ} (same : length work′ ≡ length work) (loaded : Loaded s 1 work 1 work′ end) where
+    pub memory-askable : Askable table places ty work′ 1
+    memory-askable = record {
+      type = record { setting = ready .setting; known = ready .known; below = ready .below };
+      usage = record {
+        usage = ready .usage;
+        rank = itself;
+        lo = 1;
+        hi = 1 + nodes (ready .usage);
+        stands = loaded .stands (ready .usage) [] (ready .reads);
+        few = omega (arith, ready .few, ready .many);
+        within = omega (arith, ready .area);
+        linkable = omega (arith, ready .area);
+      };
+    }
+
+    pub memory-supported : {offset : ℕ} {r : Bool} → Supports table places ty offset work′ 1 r → MemorySupported table places ty offset s r
+    memory-supported says = record { is = λ st known below u reads. says .is st known below u itself 1 (1 + nodes u) (loaded .stands u [] reads) }

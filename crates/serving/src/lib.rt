@@ -5,6 +5,9 @@ ghost use Rattle.definitions.specs.Calls.{soundCall, supportsCall, placeCall, m
 ghost use Rattle.layout.specs.Places.{Room};
 ghost use Rattle.answers.specs.Answers.{answerOf};
 ghost use Rattle.answers.specs.Writing.{Gives};
+ghost use Rattle.place_states.specs.Calls.{placing, merging};
+ghost use Rattle.folding.specs.Folding.{FoldReady};
+ghost use Rattle.serving.specs.Loaded.{MemoryReady, MemorySupported, PairReady, PairGiven, ListGiven};
 ghost use Rattle.serving.specs.Promised.{Promised};
 use analyze::merge_mem;
 use analyze::merge_mem_at;
@@ -44,7 +47,7 @@ pub fn sound(table: &[u8], work: &mut [u8], places: &mut [u32], s: &[u8]) -> Ans
     if !records.ok {
         return refusal(BAD_TABLE);
     }
-    let Found::Stream { nodes, types } = stream::memory(s) else {
+    let Found::Stream { nodes, types } = stream::memory(s, work) else {
         return refusal(BAD_FIRST);
     };
     if (records.count as u64) < types {
@@ -53,8 +56,25 @@ pub fn sound(table: &[u8], work: &mut [u8], places: &mut [u32], s: &[u8]) -> Ans
     if NODES < nodes {
         return refusal(MANY_NODES);
     }
-    transfer::load(s, 1, nodes, work, 0);
-    said(soundness::sound(work, 0))
+    transfer_in::load(s, 1, nodes, work, 1);
+    said(soundness::sound(work, 1))
+}
+
+// The usage of a Memory stream is loaded, and the type is asked.
+fn supports_loaded(
+    table: &[u8],
+    places: &[u32],
+    ty: u32,
+    offset: u32,
+    s: &[u8],
+    nodes: usize,
+    work: &mut [u8],
+) -> bool
+    requires { ⌜ MemoryReady (now table) (now places) ty (now s) nodes (now work) ⌝ }
+    ensures { λ r. ⌜ MemorySupported (now (table .entry)) (now (places .entry)) ty offset (now (s .entry)) r ⌝ }
+{
+    transfer_in::load(s, 1, nodes, work, 1);
+    support::supports_usage_at_offset(table, places, ty, offset, work, 1)
 }
 
 // Does a type, at an offset, support the usage of a Memory stream? It is loaded as for `sound`.
@@ -76,7 +96,7 @@ pub fn supports(
     if !records.ok {
         return refusal(BAD_TABLE);
     }
-    let Found::Stream { nodes, types } = stream::memory(s) else {
+    let Found::Stream { nodes, types } = stream::memory(s, work) else {
         return refusal(BAD_FIRST);
     };
     if records.count <= ty as usize {
@@ -91,8 +111,28 @@ pub fn supports(
     if NODES < nodes {
         return refusal(MANY_NODES);
     }
-    transfer::load(s, 1, nodes, work, 0);
-    said(support::supports_usage_at_offset(table, places, ty, offset, work, 0))
+    said(supports_loaded(table, places, ty, offset, s, nodes, &mut work[0..WORK]))
+}
+
+// The usages of two Memories are loaded, and the second is put into the first at an offset.
+fn place_loaded(
+    table: &[u8],
+    places: &[u32],
+    first: &[u8],
+    na: usize,
+    offset: u32,
+    second: &[u8],
+    nb: usize,
+    work: &mut [u8],
+    output: &mut [u8],
+    rep: &mut [u8],
+) -> Answer
+    requires { ⌜ PairReady (now table) (now places) (now first) na (now second) nb (now work) ⌝ }
+    ensures { λ r. ⌜ PairGiven 0x0A (placing offset) (now (table .entry)) (now (places .entry)) (now (first .entry)) na (now (second .entry)) nb (now (output .entry)) (now (rep .entry)) r (now (output .exit)) (now (rep .exit)) ⌝ }
+{
+    load_both(first, na, second, nb, work);
+    let r = merge_mem_at(table, places, work, 1, offset, 1 + na, rep, 0);
+    finish(MEMORY, r, work, output, rep)
 }
 
 // The second Memory is put into the first at an offset.
@@ -109,30 +149,45 @@ pub fn place(
     requires { ⌜ Room (now table) (now places) ⌝ }
     ensures { λ r. ⌜ Gives (placeCall (now (table .entry)) (length (now (work .entry))) (now (first .entry)) offset (now (second .entry)) (now (output .entry)) (length (now (rep .entry)))) r (now (output .exit)) (now (rep .exit)) ⌝ }
 {
-    let t = accept(
-        table,
-        work,
-        places,
-        stream::memory(first),
-        stream::memory(second),
-    );
+    let a = stream::memory(first, work);
+    let b = stream::memory(second, work);
+    let t = accept(table, work, places, a, b);
     if t.refusal != 0 {
         return refuse(t.refusal, rep);
     }
-    load_both(first, t.first, second, t.second, work);
-    let e = (t.first + t.second) * 32;
-    let r = merge_mem_at(
+    place_loaded(
         table,
         places,
-        &mut work[0..e],
+        first,
         t.first,
         offset,
+        second,
         t.second,
+        &mut work[0..WORK],
+        output,
         rep,
-        0,
-        0,
-    );
-    finish(MEMORY, r, work, output, rep)
+    )
+}
+
+// The usages of two tops that begin with the same byte are loaded and merged.
+fn merge_loaded(
+    table: &[u8],
+    places: &[u32],
+    top: u8,
+    first: &[u8],
+    na: usize,
+    second: &[u8],
+    nb: usize,
+    work: &mut [u8],
+    output: &mut [u8],
+    rep: &mut [u8],
+) -> Answer
+    requires { ⌜ PairReady (now table) (now places) (now first) na (now second) nb (now work) ⌝ }
+    ensures { λ r. ⌜ PairGiven top merging (now (table .entry)) (now (places .entry)) (now (first .entry)) na (now (second .entry)) nb (now (output .entry)) (now (rep .entry)) r (now (output .exit)) (now (rep .exit)) ⌝ }
+{
+    load_both(first, na, second, nb, work);
+    let r = merge_mem(table, places, work, 1, 1 + na, rep, 0);
+    finish(top, r, work, output, rep)
 }
 
 // Two Buffers or two Memories are merged; of others the first stays.
@@ -148,7 +203,9 @@ pub fn merge(
     requires { ⌜ Room (now table) (now places) ⌝ }
     ensures { λ r. ⌜ Gives (mergeCall (now (table .entry)) (length (now (work .entry))) (now (first .entry)) (now (second .entry)) (now (output .entry)) (length (now (rep .entry)))) r (now (output .exit)) (now (rep .exit)) ⌝ }
 {
-    let t = accept(table, work, places, stream::top(first), stream::top(second));
+    let a = stream::top(first, work);
+    let b = stream::top(second, work);
+    let t = accept(table, work, places, a, b);
     if t.refusal != 0 {
         return refuse(t.refusal, rep);
     }
@@ -159,10 +216,34 @@ pub fn merge(
     if top != second[0] {
         return keep(first, 1, output, rep);
     }
-    load_both(first, t.first, second, t.second, work);
-    let e = (t.first + t.second) * 32;
-    let r = merge_mem(table, places, &mut work[0..e], t.first, t.second, rep, 0, 0);
-    finish(top, r, work, output, rep)
+    merge_loaded(
+        table,
+        places,
+        top,
+        first,
+        t.first,
+        second,
+        t.second,
+        &mut work[0..WORK],
+        output,
+        rep,
+    )
+}
+
+// The nodes of an accepted list are merged one after the other.
+fn fold_loaded(
+    table: &[u8],
+    places: &[u32],
+    list: &[u8],
+    work: &mut [u8],
+    output: &mut [u8],
+    rep: &mut [u8],
+) -> Answer
+    requires { ⌜ FoldReady (now table) (now places) (now list) (now work) ⌝ }
+    ensures { λ r. ⌜ ListGiven (now (table .entry)) (now (places .entry)) (now (list .entry)) (now (output .entry)) (now (rep .entry)) r (now (output .exit)) (now (rep .exit)) ⌝ }
+{
+    let r = folding::fold_nodes(table, places, list, work, rep);
+    finish(MEMORY, r, work, output, rep)
 }
 
 // The nodes of a list, merged one after the other.
@@ -178,16 +259,10 @@ pub fn fold(
     ensures { λ r. ⌜ Gives (foldCall (now (table .entry)) (length (now (work .entry))) (now (list .entry)) (now (output .entry)) (length (now (rep .entry)))) r (now (output .exit)) (now (rep .exit)) ⌝ }
     ensures { λ r. ⌜ Promised (now (table .entry)) (now (list .entry)) (answerOf r) (now (output .exit)) ⌝ }
 {
-    let t = accept(
-        table,
-        work,
-        places,
-        stream::list(list),
-        Found::Stream { nodes: 0, types: 0 },
-    );
+    let a = stream::list(list, work);
+    let t = accept(table, work, places, a, Found::Stream { nodes: 0, types: 0 });
     if t.refusal != 0 {
         return refuse(t.refusal, rep);
     }
-    let r = folding::fold_nodes(table, places, list, work, rep);
-    finish(MEMORY, r, work, output, rep)
+    fold_loaded(table, places, list, &mut work[0..WORK], output, rep)
 }

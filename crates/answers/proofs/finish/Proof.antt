@@ -2,7 +2,7 @@
 -- Assumes nothing.
 use native.Mathlib.Omega.{arith}
 use borrow.Author.Needs.{needs}
-use Rattle.transfer.specs.Writing.{Standing}
+use Rattle.transfer_out.specs.Writing.{Readable}
 use Rattle.answers.proofs.Finishing.{standing, length-small, fitting, length-put, finished-refused, finished-10, finished-11, finished-written}
 use Rattle.answers.proofs.finish.Statement.{statement}
 use Rattle.answers.proofs.finish.Tie as tie
@@ -16,7 +16,7 @@ same-length c = search needs
 returns : tie.Need-returns
 returns c = finished-refused (c .before .before .before .before .if1 .taken) (c .before .before .refuse .ensures)
 
-stands : (c : tie.Else1) → Standing (c .before .before .before .before .before .args .work .now) 0
+stands : (c : tie.Else1) → Readable (c .before .before .before .before .before .args .work .now) (c .before .before .before .before .before .args .r .node)
 stands c = standing (c .if1 .left) (c .before .before .before .before .before .pre)
 
 written-length-requires : tie.Need-written-length-requires

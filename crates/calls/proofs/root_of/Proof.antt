@@ -15,11 +15,14 @@ enum-known-nodes c = search needs
 enum-told : tie.Need-enum-told
 enum-told c = search needs
 
-returns : tie.Need-returns
-returns c = lost (c .before .before .before .before .args .s .now) (rw (c .enum-told .given .1) at (c .before .before .memory .ensures))
+same-length : tie.Need-same-length
+same-length c = search needs
 
-memory : (c : tie.After-known-told) → (let told = c .before .nodes .given .0 in Memory (c .before .before .before .before .before .args .s .now) (told .0) (told .1 .0))
-memory c = found (c .before .before .before .before .before .args .s .now) (rw (c .before .nodes .given .1) at (c .before .before .before .memory .ensures))
+returns : tie.Need-returns
+returns c = lost (c .before .before .before .before .before .before .before .before .args .s .now) (rw (c .enum-told .given .1) at (c .before .before .before .before .memory .ensures))
+
+memory : (c : tie.After-known-told) → (let told = c .before .nodes .given .0 in Memory (c .before .before .before .before .before .before .before .before .before .args .s .now) (told .0) (told .1 .0))
+memory c = found (c .before .before .before .before .before .before .before .before .before .args .s .now) (rw (c .before .nodes .given .1) at (c .before .before .before .before .before .memory .ensures))
 
 header-requires : tie.Need-header-requires
 header-requires c κs = memory c .some-bytes
@@ -30,8 +33,14 @@ enum-known-node c = search needs
 enum-told-2 : tie.Need-enum-told-2
 enum-told-2 c = search needs
 
+same-length-2 : tie.Need-same-length-2
+same-length-2 c = search needs
+
 returns-2 : tie.Need-returns-2
 returns-2 c = root-none (memory (c .before .before .before)) (rw (c .enum-told2 .given .1) at (c .before .before .header .ensures))
+
+same-length-3 : tie.Need-same-length-3
+same-length-3 c = search needs
 
 returns-3 : tie.Need-returns-3
 returns-3 c = root-part (memory (c .before .before .before .before)) (rw (c .before .node .given .1) at (c .before .before .before .header .ensures))
@@ -43,9 +52,12 @@ root-of-spec =
     memory-requires
     enum-known-nodes
     enum-told
+    same-length
     returns
     header-requires
     enum-known-node
     enum-told-2
+    same-length-2
     returns-2
+    same-length-3
     returns-3)

@@ -4,7 +4,7 @@
 use native.Mathlib.Omega.{arith}
 use mathlib.Core.Path.{_∙_}
 use borrow.Author.Needs.{needs}
-use Rattle.folding.proofs.Nexts.{index-back, index-kept, next-node-ready, next-few, next-inside, next-merges, next-finger, next-folded}
+use Rattle.folding.proofs.Nexts.{index-back, index-kept, next-node-ready, next-free, next-merges, next-near, next-folded}
 use Rattle.folding.proofs.fold_next.Statement.{statement}
 use Rattle.folding.proofs.fold_next.Tie as tie
 
@@ -14,57 +14,48 @@ load-node-requires c κs = next-node-ready (c .before .before .before .before .b
 of-node-requires : tie.Need-of-node-requires
 of-node-requires c κs = search needs
 
-add-e : tie.Need-add-e
-add-e c = omega (arith, next-few (c .before .before .before .before .before .before .before .before .before .before .before .before .before .pre) (c .before .before .before .before .before .before .load-node .ensures))
-
-mul-e : tie.Need-mul-e
-mul-e c = omega (arith, next-few (c .before .before .before .before .before .before .before .before .before .before .before .before .before .pre) (c .before .before .before .before .before .before .load-node .ensures))
-
-sub-merge-mem : tie.Need-sub-merge-mem
-sub-merge-mem c = search needs
-
-part-merge-mem-start : tie.Need-part-merge-mem-start
-part-merge-mem-start c = search needs
-
-part-merge-mem-end : tie.Need-part-merge-mem-end
-part-merge-mem-end c = let load = c .before .before .before .before .before .before in next-inside (load .before .before .before .before .before .before .before .pre) (load .load-node .ensures) (load .load-node .kept .1 .1 .0)
-
 merge-mem-requires : tie.Need-merge-mem-requires
 merge-mem-requires c κs =
     let load = c .before .before .before .before .before .before .before .before in
-    let ready = load .before .before .before .before .before .before .before .pre in
-    let inside = next-inside ready (load .load-node .ensures) (load .load-node .kept .1 .1 .0) in
-    (next-merges ready (load .load-node .ensures) inside, (omega (arith, next-few ready (load .load-node .ensures), ready .near, c .before .before .before .before .of-node .ensures .place), next-finger ready (load .load-node .ensures) inside))
+    let start = load .before .before .before .before .before .before .before in (
+      next-merges (start .pre) (load .load-node .kept .1 .1 .0) (load .load-node .ensures),
+      next-near (start .pre) (load .load-node .kept .1 .1 .0) (load .load-node .ensures) _ (omega (arith, start .pre .near, c .before .before .before .before .of-node .ensures .place)),
+    )
+
+add-t33 : tie.Need-add-t33
+add-t33 c =
+    let load = c .before .before .before .before .before .before .before .before .before .before .before .before .before in
+    omega (arith, next-free (load .before .before .before .before .before .before .before .pre) (load .load-node .kept .1 .1 .0) (load .load-node .ensures))
 
 wrapping-add-u32-requires : tie.Need-wrapping-add-u32-requires
 wrapping-add-u32-requires c κs = search needs
 
 same-length : tie.Need-same-length
-same-length c = c .before .before .before .before .before .work2 .given .1 ∙ c .before .before .before .before .before .before .before .before .before .before .before .before .before .before .before .load-node .kept .1 .1 .0
+same-length c = search needs
 
 same-length-2 : tie.Need-same-length-2
-same-length-2 c = c .before .before .before .before .before .before .merge-mem .kept .1 .1 .1 .1 .1 .0 ∙ c .before .before .before .before .before .before .before .before .before .before .before .of-node .kept .0
+same-length-2 c = search needs
 
 returns : tie.Need-returns
 returns c =
     let merge = c .before .before .before .before .before .before in
     let load = merge .before .before .before .before .before .before .before .before .before in
     let start = load .before .before .before .before .before .before .before in
-    next-folded (start .pre) (load .load-node .ensures) (next-inside (start .pre) (load .load-node .ensures) (load .load-node .kept .1 .1 .0)) (start .args .i) (merge .merge-mem .result) (merge .merge-mem .kept .1 .1 .0) (merge .merge-mem .ensures .0) (merge .merge-mem .ensures .1)
+    next-folded (start .pre) (load .load-node .kept .1 .1 .0) (load .load-node .ensures) (start .args .i) (merge .merge-mem .result) (merge .merge-mem .ensures)
     (c .before .wrapping-add-u32 .ensures) (index-back (start .args .i) (start .pre .near) (merge .before .before .before .before .before .of-node .ensures) (c .if1 .taken))
 
 same-length-3 : tie.Need-same-length-3
-same-length-3 c = c .before .before .before .before .before .work2 .given .1 ∙ c .before .before .before .before .before .before .before .before .before .before .before .before .before .before .before .load-node .kept .1 .1 .0
+same-length-3 c = search needs
 
 same-length-4 : tie.Need-same-length-4
-same-length-4 c = c .before .before .before .before .before .before .merge-mem .kept .1 .1 .1 .1 .1 .0 ∙ c .before .before .before .before .before .before .before .before .before .before .before .of-node .kept .0
+same-length-4 c = search needs
 
 returns-2 : tie.Need-returns-2
 returns-2 c =
     let merge = c .before .before .before .before .before .before in
     let load = merge .before .before .before .before .before .before .before .before .before in
     let start = load .before .before .before .before .before .before .before in
-    next-folded (start .pre) (load .load-node .ensures) (next-inside (start .pre) (load .load-node .ensures) (load .load-node .kept .1 .1 .0)) (start .args .i) (merge .merge-mem .result) (merge .merge-mem .kept .1 .1 .0) (merge .merge-mem .ensures .0) (merge .merge-mem .ensures .1)
+    next-folded (start .pre) (load .load-node .kept .1 .1 .0) (load .load-node .ensures) (start .args .i) (merge .merge-mem .result) (merge .merge-mem .ensures)
     (c .before .wrapping-add-u32 .ensures) (index-kept (start .args .i) (start .pre .near) (merge .before .before .before .before .before .of-node .ensures) (c .if1 .left))
 
 pub fold-next-spec : {M : Type 1} → statement M
@@ -73,12 +64,8 @@ fold-next-spec =
     (tie.spec
     load-node-requires
     of-node-requires
-    add-e
-    mul-e
-    sub-merge-mem
-    part-merge-mem-start
-    part-merge-mem-end
     merge-mem-requires
+    add-t33
     wrapping-add-u32-requires
     same-length
     same-length-2

@@ -10,7 +10,7 @@ use Rattle.definitions.specs.Usage.{Nodes}
 use Rattle.definitions.specs.Command.{Command}
 use Rattle.definitions.specs.Table.{Setting}
 use Rattle.folding.specs.Folding.{Foldable}
-use Rattle.folding.proofs.Folds.{Folding, count-inside, first-ready, fold-start, turn-ready, turn-refused, turn-on, fold-end}
+use Rattle.folding.proofs.Folds.{Folding, count-inside, first-ready, first-few, fold-start, turn-ready, turn-refused, turn-on, fold-end}
 use Rattle.folding.proofs.fold_nodes.Statement.{statement}
 use Rattle.folding.proofs.fold_nodes.Tie as tie
 
@@ -37,20 +37,23 @@ add-load-node : tie.Need-add-load-node Inv-loop μ-loop
 add-load-node c = search needs
 
 load-node-requires : tie.Need-load-node-requires Inv-loop μ-loop
-load-node-requires c κs = let start = c .before .before .before .before .before .before .before .before .before in first-ready (start .pre .foldable) (ap (λ (r : Command). r .argument) (c .before .before .before .of .ensures)) (start .pre .enough)
+load-node-requires c κs = let start = c .before .before .before .before .before .before .before .before .before in first-ready (start .pre .foldable) (ap (λ (r : Command). r .argument) (c .before .before .before .of .ensures)) (start .pre .area)
+
+add-t13 : tie.Need-add-t13 Inv-loop μ-loop
+add-t13 c = omega (arith, first-few (c .before .before .before .before .before .before .before .before .before .before .before .before .before .pre .foldable) (ap (λ (r : Command). r .argument) (c .before .before .before .before .before .before .before .of .ensures)) (c .before .before .before .load-node .ensures))
 
 loop-holds : tie.Need-loop-holds Inv-loop μ-loop
 loop-holds c =
-    ((λ st ns h. fold-start h (ap (λ (r : Command). r .argument) (c .before .before .before .before .before .before .of .ensures)) (c .before .before .before .before .before .before .before .before .before .before .before .before .args .rep .now) (c .before .before .before .before .number .ensures) (c .before .before .load-node .ensures)), refl, refl)
+    ((λ st ns h. fold-start h (ap (λ (r : Command). r .argument) (c .before .before .before .before .before .before .before .of .ensures)) (c .before .before .before .before .before .before .before .before .before .before .before .before .before .args .rep .now) (c .before .before .before .before .before .number .ensures) (c .before .before .before .load-node .ensures)), refl, refl)
 
 fold-next-requires : tie.Need-fold-next-requires Inv-loop μ-loop
 fold-next-requires c κs =
     let here = c .before .before .before in
-    let ready = here .before .before .before .before .before .before .before .before .before .before .before .before .before .pre in
-    turn-ready (here .loop .inv .0 (ready .setting) (ready .listed) (ready .foldable)) (ready .foldable .known) (c .before .before .loop-test .taken) (omega (arith, ready .enough, here .loop .inv .1))
+    let ready = here .before .before .before .before .before .before .before .before .before .before .before .before .before .before .pre in
+    turn-ready (here .loop .inv .0 (ready .setting) (ready .listed) (ready .foldable)) (ready .foldable .known) (c .before .before .loop-test .taken) (here .loop .inv .1 ∙ here .before .before .before .before .load-node .kept .1 .1 .0 ∙ ready .area)
 
 same-length : tie.Need-same-length Inv-loop μ-loop
-same-length c = c .before .before .before .before .before .before .before .fold-next .kept .1 .1 .1 .1 .1 .0 ∙ c .before .before .before .before .before .before .before .before .before .before .before .loop .inv .1 ∙ c .before .before .before .before .before .before .before .before .before .before .before .before .before .before .load-node .kept .1 .1 .0
+same-length c = c .before .before .before .before .before .before .before .fold-next .kept .1 .1 .1 .1 .1 .0 ∙ c .before .before .before .before .before .before .before .before .before .before .before .loop .inv .1 ∙ c .before .before .before .before .before .before .before .before .before .before .before .before .before .before .before .load-node .kept .1 .1 .0
 
 same-length-2 : tie.Need-same-length-2 Inv-loop μ-loop
 same-length-2 c = c .before .before .before .before .before .before .before .fold-next .kept .1 .1 .1 .1 .1 .1 .0 ∙ c .before .before .before .before .before .before .before .before .before .before .before .loop .inv .2
@@ -62,7 +65,7 @@ returns c =
     }
 
 add-i : tie.Need-add-i Inv-loop μ-loop
-add-i c = omega (arith, c .before .before .before .before .before .before .before .before .before .loop-test .taken, c .before .before .before .before .before .before .before .before .before .before .before .before .before .before .before .number)
+add-i c = omega (arith, c .before .before .before .before .before .before .before .before .before .loop-test .taken, c .before .before .before .before .before .before .before .before .before .before .before .before .before .before .before .before .number)
 
 loop-less : tie.Need-loop-less Inv-loop μ-loop
 loop-less c = search needs
@@ -73,7 +76,7 @@ loop-again c =
     ((λ st ns h. turn-on (inv .0 st ns h) (h .known) (c .before .before .before .before .before .before .before .before .before .loop-test .taken) (c .before .before .before .before .before .before .fold-next .ensures) (c .if1 .left)), c .before .before .before .before .before .before .fold-next .kept .1 .1 .1 .1 .1 .0 ∙ inv .1, c .before .before .before .before .before .before .fold-next .kept .1 .1 .1 .1 .1 .1 .0 ∙ inv .2)
 
 same-length-3 : tie.Need-same-length-3 Inv-loop μ-loop
-same-length-3 c = c .before .before .loop .inv .1 ∙ c .before .before .before .before .before .load-node .kept .1 .1 .0
+same-length-3 c = c .before .before .loop .inv .1 ∙ c .before .before .before .before .before .before .load-node .kept .1 .1 .0
 
 same-length-4 : tie.Need-same-length-4 Inv-loop μ-loop
 same-length-4 c = c .before .before .loop .inv .2
@@ -81,7 +84,7 @@ same-length-4 c = c .before .before .loop .inv .2
 returns-2 : tie.Need-returns-2 Inv-loop μ-loop
 returns-2 c =
     let here = c .before .before in
-    record { of = λ st ns h. fold-end (here .loop .inv .0 st ns h) (h .few) (c .before .loop-test .left) (omega (arith, here .before .before .before .before .before .before .before .before .before .before .before .before .before .pre .enough, here .loop .inv .1)) }
+    record { of = λ st ns h. fold-end (here .loop .inv .0 st ns h) (h .few) (c .before .loop-test .left) }
 
 pub fold-nodes-spec : {M : Type 1} → statement M
 fold-nodes-spec =
@@ -95,6 +98,7 @@ fold-nodes-spec =
     cast-count
     add-load-node
     load-node-requires
+    add-t13
     loop-holds
     fold-next-requires
     same-length

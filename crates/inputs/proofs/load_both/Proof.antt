@@ -11,11 +11,14 @@ load-requires c κs = left-loadable (c .before .before .before .before .pre)
 load-requires-2 : tie.Need-load-requires-2
 load-requires-2 c κs = right-loadable (c .before .before .before .before .before .before .before .before .pre) (search needs)
 
+add-load : tie.Need-add-load
+add-load c = search needs
+
 same-length : tie.Need-same-length
 same-length c = search needs
 
 returns : tie.Need-returns
-returns c = both-loaded (c .before .before .before .before .before .before .load .ensures) (c .before .before .load2 .ensures)
+returns c = both-loaded (search needs) (c .before .before .before .before .before .before .load .ensures) (c .before .before .load2 .ensures)
 
 pub load-both-spec : {M : Type 1} → statement M
-load-both-spec = tie.close (tie.spec load-requires load-requires-2 same-length returns)
+load-both-spec = tie.close (tie.spec load-requires add-load load-requires-2 same-length returns)

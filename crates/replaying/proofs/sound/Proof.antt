@@ -4,7 +4,7 @@ use native.Mathlib.Omega.{arith}
 use borrow.Author.Needs.{needs}
 use lib.ListN.{length, take, length-take}
 use mathlib.Core.Path.{_≡_}
-use Rattle.records.specs.Words.{word}
+use Rattle.numbers.specs.Words.{word}
 use Rattle.replaying.proofs.Agreeing.{sounded}
 use Rattle.replaying.proofs.sound.Statement.{statement}
 use Rattle.replaying.proofs.sound.Tie as tie

@@ -1,45 +1,40 @@
 -- `merge` meets its contract: the refusals come in their order; two Buffers or two Memories are merged as the usages that were read, and
 -- of other tops the first stays.
 -- Assumes nothing.
-use mathlib.Core.Path.{_≡_, refl, _∙_}
+use mathlib.Core.Path.{_≡_, _∙_}
 use native.Mathlib.Omega.{arith}
 use borrow.Author.Needs.{needs}
 use lib.ListN.{length, getD}
-use Rattle.definitions.specs.Usage.{Usage}
-use Rattle.definitions.specs.Place.{Result}
 use Rattle.definitions.proofs.Written.{Bytes}
-use Rattle.states.specs.Calls.{merging}
 use Rattle.inputs.specs.Inputs.{Good, Met}
-use Rattle.states.proofs.Fingers.{no-finger}
-use Rattle.answers.specs.Writing.{Reached}
-use Rattle.serving.proofs.Pairs.{back, both, ready, merging-few, reaches}
+use Rattle.serving.proofs.Pairs.{pair-ready, area-lent}
 use Rattle.serving.proofs.Merging.{toldTop, merge-refused, first-some, second-some, opaque-first, merge-opaque, merge-unlike, ReadMerged, merge-alike, merge-gives}
 use Rattle.serving.proofs.merge.Statement.{statement}
 use Rattle.serving.proofs.merge.Tie as tie
 
+-- reading keeps the work area's length
+work-lent : (c : tie.After-accept) → length (c .before .before .before .before .before .top2 .last .1 .0) ≡ length (c .before .before .before .before .before .before .before .before .before .before .before .before .before .before .before .before .before .before .args .work .now)
+work-lent c = c .before .before .before .before .before .top2 .kept .1 .0 ∙ c .before .before .before .before .before .before .before .before .before .top .kept .1 .0
+
 -- what acceptance tells of the two streams
 
-met : (c : tie.After-accept) → (let a = c .before .before .before .before .before .before .before .before .before .before .before .before .args in Met (a .table .now) (length (a .work .now)) (toldTop (a .first .now)) (toldTop (a .second .now)) (c .accept .last .1 .1 .0) (c .accept .result))
-met c = rw (c .before .before .top .ensures, c .before .top2 .ensures) at (c .accept .ensures)
+met : (c : tie.After-accept) → (let a = c .before .before .before .before .before .before .before .before .before .before .before .before .before .before .before .before .before .before .args in Met (a .table .now) (length (a .work .now)) (toldTop (a .first .now)) (toldTop (a .second .now)) (c .accept .last .1 .1 .0) (c .accept .result))
+met c = rw (c .before .before .before .before .before .before .before .before .before .top .ensures, c .before .before .before .before .before .top2 .ensures, work-lent c) at (c .accept .ensures)
 
-good : (c : tie.Else1) → (let a = c .before .before .before .before .before .before .before .before .before .before .before .before .before .before .before .before .args in let t = c .before .before .before .before .accept in Good (a .table .now) (length (a .work .now)) (toldTop (a .first .now)) (toldTop (a .second .now)) (t .last .1 .1 .0) (t .result .first) (t .result .second))
+good : (c : tie.Else1) → (let a = c .before .before .before .before .before .before .before .before .before .before .before .before .before .before .before .before .before .before .before .before .before .before .args in let t = c .before .before .before .before .accept in Good (a .table .now) (length (a .work .now)) (toldTop (a .first .now)) (toldTop (a .second .now)) (t .last .1 .1 .0) (t .result .first) (t .result .second))
 good c = met (c .before .before .before .before) .good (omega (arith, c .if1 .left))
 
-first-bytes : (c : tie.Else1) → Bytes (c .before .before .before .before .before .before .before .before .before .before .before .before .before .before .before .before .args .first .now)
-first-bytes c k = c .before .before .before .before .before .before .before .before .before .before .before .before .shared-slice-known2 .given k .fits
+first-bytes : (c : tie.Else1) → Bytes (c .before .before .before .before .before .before .before .before .before .before .before .before .before .before .before .before .before .before .before .before .before .before .args .first .now)
+first-bytes c k = c .before .before .before .before .before .before .before .before .before .before .before .before .before .before .before .before .before .before .shared-slice-known2 .given k .fits
 
-second-bytes : (c : tie.Else1) → Bytes (c .before .before .before .before .before .before .before .before .before .before .before .before .before .before .before .before .args .second .now)
-second-bytes c k = c .before .before .before .before .before .before .before .before .before .before .before .shared-slice-known3 .given k .fits
+second-bytes : (c : tie.Else1) → Bytes (c .before .before .before .before .before .before .before .before .before .before .before .before .before .before .before .before .before .before .before .before .before .before .args .second .now)
+second-bytes c k = c .before .before .before .before .before .before .before .before .before .before .before .before .before .before .before .before .before .shared-slice-known3 .given k .fits
 
-merged : (c : tie.Else3) → (let e = c .before .before .before .before in let a = e .before .before .before .before .before .before .before .before .before .before .before .before .before .before .before .before .args in ReadMerged (a .table .now) (length (a .work .now)) (a .first .now) (a .second .now) (good e) (first-bytes e) (second-bytes e) (getD (a .first .now) 0 0))
+merged : (c : tie.Else3) → (let e = c .before .before .before .before in let a = e .before .before .before .before .before .before .before .before .before .before .before .before .before .before .before .before .before .before .before .before .before .before .args in ReadMerged (a .table .now) (length (a .work .now)) (a .first .now) (a .second .now) (good e) (first-bytes e) (second-bytes e) (getD (a .first .now) 0 0))
 merged c =
     let e = c .before .before .before .before in
-    let a = e .before .before .before .before .before .before .before .before .before .before .before .before .before .before .before .before .args in
+    let a = e .before .before .before .before .before .before .before .before .before .before .before .before .before .before .before .before .before .before .before .before .before .before .args in
     merge-alike (a .table .now) (length (a .work .now)) (a .first .now) (a .second .now) (good e) (first-bytes e) (second-bytes e) (c .before .before .if2 .left) (omega (arith, c .if3 .left))
-
--- loading keeps the work area's length
-work-kept : (c : tie.After-load-both) → length (c .load-both .last .1 .1 .1 .1 .0) ≡ length (c .before .before .before .before .before .before .before .before .before .before .before .before .before .before .before .before .before .before .before .before .before .before .args .work .now)
-work-kept c = c .load-both .kept .1 .1 .1 .1 .0
 
 top-requires : tie.Need-top-requires
 top-requires c κs = search needs
@@ -54,7 +49,7 @@ refuse-requires : tie.Need-refuse-requires
 refuse-requires c κs = search needs
 
 same-length : tie.Need-same-length
-same-length c = refl
+same-length c = work-lent (c .before .before .before .before .before .before .before .before)
 
 same-length-2 : tie.Need-same-length-2
 same-length-2 c = c .before .before .before .before .before .before .before .before .accept .kept .1 .1 .0
@@ -64,26 +59,26 @@ same-length-3 c = c .before .before .refuse .kept .1 .0
 
 returns : tie.Need-returns
 returns c =
-    let a = c .before .before .before .before .before .before .before .before .before .before .before .before .before .before .before .before .before .before .before .before .args in
+    let a = c .before .before .before .before .before .before .before .before .before .before .before .before .before .before .before .before .before .before .before .before .before .before .before .before .before .before .args in
     merge-refused (a .table .now) (length (a .work .now)) (a .first .now) (a .second .now) (met (c .before .before .before .before .before .before .before .before)) (omega (arith, c .before .before .before .before .if1 .taken)) (a .output .now) (length (a .rep .now)) (c .before .before .refuse .ensures)
 
 shared-slice-read-top : tie.Need-shared-slice-read-top
 shared-slice-read-top c =
     let e = c .before in
-    let a = e .before .before .before .before .before .before .before .before .before .before .before .before .before .before .before .before .args in
+    let a = e .before .before .before .before .before .before .before .before .before .before .before .before .before .before .before .before .before .before .before .before .before .before .args in
     first-some (a .table .now) (length (a .work .now)) (a .first .now) (a .second .now) (good e) (first-bytes e) (second-bytes e)
 
 conflicts-requires : tie.Need-conflicts-requires
 conflicts-requires c κs =
     let e = c .before .before in
-    let a = e .before .before .before .before .before .before .before .before .before .before .before .before .before .before .before .before .args in
+    let a = e .before .before .before .before .before .before .before .before .before .before .before .before .before .before .before .before .before .before .before .before .before .before .args in
     opaque-first (a .table .now) (length (a .work .now)) (a .first .now) (a .second .now) (good e) (first-bytes e) (second-bytes e) (c .if2 .taken)
 
 keep-requires : tie.Need-keep-requires
 keep-requires c κs = search needs
 
 same-length-4 : tie.Need-same-length-4
-same-length-4 c = refl
+same-length-4 c = work-lent (c .before .before .before .before .before .before .before .before .before .before .before .before .before .before)
 
 same-length-5 : tie.Need-same-length-5
 same-length-5 c = c .before .before .before .before .before .before .before .before .before .before .before .before .before .before .accept .kept .1 .1 .0
@@ -97,20 +92,20 @@ same-length-7 c = c .before .before .before .before .keep .kept .1 .1 .1 .0
 returns-2 : tie.Need-returns-2
 returns-2 c =
     let e = c .before .before .before .before .before .before .before .before .before .before in
-    let a = e .before .before .before .before .before .before .before .before .before .before .before .before .before .before .before .before .args in
+    let a = e .before .before .before .before .before .before .before .before .before .before .before .before .before .before .before .before .before .before .before .before .before .before .args in
     merge-opaque (a .table .now) (length (a .work .now)) (a .first .now) (a .second .now) (good e) (first-bytes e) (second-bytes e) (c .before .before .before .before .before .before .before .before .if2 .taken) (c .before .before .before .before .before .before .before .conflicts .ensures) (a .output .now) (length (a .rep .now)) (c .before .before .before .before .keep .ensures)
 
 shared-slice-read-if3 : tie.Need-shared-slice-read-if3
 shared-slice-read-if3 c =
     let e = c .before .before .before in
-    let a = e .before .before .before .before .before .before .before .before .before .before .before .before .before .before .before .before .args in
+    let a = e .before .before .before .before .before .before .before .before .before .before .before .before .before .before .before .before .before .before .before .before .before .before .args in
     second-some (a .table .now) (length (a .work .now)) (a .first .now) (a .second .now) (good e) (first-bytes e) (second-bytes e)
 
 keep-requires-2 : tie.Need-keep-requires-2
 keep-requires-2 c κs = search needs
 
 same-length-8 : tie.Need-same-length-8
-same-length-8 c = refl
+same-length-8 c = work-lent (c .before .before .before .before .before .before .before .before .before .before .before .before .before .before .before)
 
 same-length-9 : tie.Need-same-length-9
 same-length-9 c = c .before .before .before .before .before .before .before .before .before .before .before .before .before .before .before .accept .kept .1 .1 .0
@@ -124,64 +119,38 @@ same-length-11 c = c .before .before .before .before .keep2 .kept .1 .1 .1 .0
 returns-3 : tie.Need-returns-3
 returns-3 c =
     let e = c .before .before .before .before .before .before .before .before .before .before .before in
-    let a = e .before .before .before .before .before .before .before .before .before .before .before .before .before .before .before .before .args in
+    let a = e .before .before .before .before .before .before .before .before .before .before .before .before .before .before .before .before .before .before .before .before .before .before .args in
     merge-unlike (a .table .now) (length (a .work .now)) (a .first .now) (a .second .now) (good e) (first-bytes e) (second-bytes e) (c .before .before .before .before .before .before .before .if3 .taken) (a .output .now) (length (a .rep .now)) (c .before .before .before .before .keep2 .ensures)
 
-load-both-requires : tie.Need-load-both-requires
-load-both-requires c κs = both (good (c .before .before .before .before .before)) (merged (c .before) .pair) refl
+sub-merge-loaded : tie.Need-sub-merge-loaded
+sub-merge-loaded c = search needs
 
-add-e : tie.Need-add-e
-add-e c = omega (arith, good (c .before .before .before .before .before .before .before .before .before) .few)
+part-merge-loaded-start : tie.Need-part-merge-loaded-start
+part-merge-loaded-start c = search needs
 
-mul-e : tie.Need-mul-e
-mul-e c = omega (arith, good (c .before .before .before .before .before .before .before .before .before) .few)
+part-merge-loaded-end : tie.Need-part-merge-loaded-end
+part-merge-loaded-end c = omega (arith, good (c .before .before .before .before .before) .enough, work-lent (c .before .before .before .before .before .before .before .before .before))
 
-sub-merge-mem : tie.Need-sub-merge-mem
-sub-merge-mem c = search needs
-
-part-merge-mem-start : tie.Need-part-merge-mem-start
-part-merge-mem-start c = search needs
-
-part-merge-mem-end : tie.Need-part-merge-mem-end
-part-merge-mem-end c = omega (arith, good (c .before .before .before .before .before .before .before .before .before .before) .few, good (c .before .before .before .before .before .before .before .before .before .before) .enough, c .before .before .before .before .load-both .kept)
-
-merge-mem-requires : tie.Need-merge-mem-requires
-merge-mem-requires c κs =
-    let e = c .before .before .before .before .before .before .before .before .before .before .before .before in
-    (ready (good e) (merged (c .before .before .before .before .before .before .before .before) .pair) (work-kept (c .before .before .before .before .before .before)) (c .before .before .before .before .before .before .load-both .ensures), (omega (arith, good e .few), no-finger _ _ _))
-
--- what the definition gives, which is what there is of it
-
-abbrev answer : (c : tie.After-merge-mem) → Result Usage
-answer c = let m = merged (c .before .before .before .before .before .before .before .before .before) .pair in merging (record { table = good (c .before .before .before .before .before .before .before .before .before .before .before .before .before) .layouts }) (m .a) (m .b)
-
-comes : (c : tie.After-merge-mem) → (let r = c .merge-mem in let t = c .before .before .before .before .before .before .before .before .before .before .before .before .before .before .before .before .before .accept .result in Reached (answer c) (back (t .first) (t .second) (r .last .1 .1 .0) (c .before .before .before .before .before .before .before .load-both .last .1 .1 .1 .1 .0)) (r .result) (r .last .1 .1 .1 .1 .1 .0))
-comes c =
-    let m = merged (c .before .before .before .before .before .before .before .before .before) .pair in
-    let e = c .before .before .before .before .before .before .before .before .before .before .before .before .before in
-    let r = c .merge-mem in
-    reaches (good e) m (work-kept (c .before .before .before .before .before .before .before)) (c .before .before .before .before .before .before .before .load-both .ensures) merging (merging-few (good e) m) (r .last .1 .1 .0) (r .kept .1 .1 .0) (r .result) (r .ensures .0)
-
-finish-requires : tie.Need-finish-requires
-finish-requires c κs = record { result = answer (c .before .before .before .before .before .before .before); reached = comes (c .before .before .before .before .before .before .before) }
+merge-loaded-requires : tie.Need-merge-loaded-requires
+merge-loaded-requires c κs = let e = c .before .before .before .before .before .before .before .before in pair-ready (good e) (merged (c .before .before .before .before) .pair) (area-lent (c .before .before .before .before .before .before .before .before .before .before .before .before .before .before .before .before .before .top2 .last .1 .0) (work-lent (e .before .before .before .before)) (good e .enough))
 
 same-length-12 : tie.Need-same-length-12
-same-length-12 c = c .before .before .before .before .before .before .before .before .before .before .before .work2 .given .1 ∙ c .before .before .before .before .before .before .before .before .before .before .before .before .before .before .before .before .before .before .before .load-both .kept .1 .1 .1 .1 .0
+same-length-12 c = c .before .before .before .before .before .work3 .given .1 ∙ work-lent (c .before .before .before .before .before .before .before .before .before .before .before .before .before .before .before .before .before .before .before)
 
 same-length-13 : tie.Need-same-length-13
-same-length-13 c = c .before .before .before .before .before .before .before .before .before .before .before .before .before .before .before .before .before .before .before .before .before .before .before .before .before .before .before .before .before .accept .kept .1 .1 .0
+same-length-13 c = c .before .before .before .before .before .before .before .before .before .before .before .before .before .before .before .before .before .before .before .accept .kept .1 .1 .0
 
 same-length-14 : tie.Need-same-length-14
-same-length-14 c = c .before .before .before .before .finish .kept .1 .1 .1 .0
+same-length-14 c = c .before .before .before .before .before .before .merge-loaded .kept .1 .1 .1 .1 .1 .1 .1 .1 .0
 
 same-length-15 : tie.Need-same-length-15
-same-length-15 c = c .before .before .before .before .finish .kept .1 .1 .1 .1 .0 ∙ c .before .before .before .before .before .before .before .before .before .before .before .before .merge-mem .kept .1 .1 .1 .1 .1 .0
+same-length-15 c = c .before .before .before .before .before .before .merge-loaded .kept .1 .1 .1 .1 .1 .1 .1 .1 .1 .0
 
 returns-4 : tie.Need-returns-4
 returns-4 c =
-    let e = c .before .before .before .before .before .before .before .before .before .before .before .before .before .before .before .before .before .before .before .before .before .before .before .before .before in
-    let a = e .before .before .before .before .before .before .before .before .before .before .before .before .before .before .before .before .args in
-    merge-gives (a .table .now) (length (a .work .now)) (a .first .now) (a .second .now) (good e) (first-bytes e) (second-bytes e) (merged (c .before .before .before .before .before .before .before .before .before .before .before .before .before .before .before .before .before .before .before .before .before)) (a .output .now) (length (a .rep .now)) (c .before .before .before .before .before .before .before .before .before .before .before .before .merge-mem .kept .1 .1 .1 .1 .1 .0) (comes (c .before .before .before .before .before .before .before .before .before .before .before .before)) (c .before .before .before .before .finish .ensures)
+    let e = c .before .before .before .before .before .before .before .before .before .before .before .before .before .before .before in
+    let a = e .before .before .before .before .before .before .before .before .before .before .before .before .before .before .before .before .before .before .before .before .before .before .args in
+    merge-gives (a .table .now) (length (a .work .now)) (a .first .now) (a .second .now) (good e) (first-bytes e) (second-bytes e) (merged (c .before .before .before .before .before .before .before .before .before .before .before)) (a .output .now) (a .rep .now) (c .before .before .before .before .before .before .merge-loaded .ensures)
 
 pub merge-spec : {M : Type 1} → statement M
 merge-spec =
@@ -210,14 +179,10 @@ merge-spec =
     same-length-10
     same-length-11
     returns-3
-    load-both-requires
-    add-e
-    mul-e
-    sub-merge-mem
-    part-merge-mem-start
-    part-merge-mem-end
-    merge-mem-requires
-    finish-requires
+    sub-merge-loaded
+    part-merge-loaded-start
+    part-merge-loaded-end
+    merge-loaded-requires
     same-length-12
     same-length-13
     same-length-14

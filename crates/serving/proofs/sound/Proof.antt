@@ -1,5 +1,6 @@
 -- `sound` meets its contract: the refusals come in their order, and what is tested is the usage that was read.
 -- Assumes nothing.
+use mathlib.Core.Path.{_∙_}
 use native.Mathlib.Omega.{arith}
 use borrow.Author.Needs.{needs}
 use borrow.Author.Tests.{not-true, not-false}
@@ -51,36 +52,45 @@ refusal-requires-3 : tie.Need-refusal-requires-3
 refusal-requires-3 c κs = search needs
 
 same-length-2 : tie.Need-same-length-2
-same-length-2 c = c .before .before .before .before .before .before .before .before .accept .kept .1 .0
+same-length-2 c = c .before .before .before .before .before .memory .kept .1 .0
+
+same-length-3 : tie.Need-same-length-3
+same-length-3 c = c .before .before .before .before .before .before .before .before .before .before .before .accept .kept .1 .0
 
 returns-3 : tie.Need-returns-3
 returns-3 c =
-    let s = c .before .before .before .before .before .before .before .before .before .before .before .before .before .before .before .args .s .now in
-    rw (sound-broken (begun (c .before .before .before .before)) s (lost s (rw (c .before .enum-told .given .1) at (c .before .before .before .memory .ensures)))) (c .refusal3 .ensures)
+    let s = c .before .before .before .before .before .before .before .before .before .before .before .before .before .before .before .before .before .before .args .s .now in
+    rw (sound-broken (begun (c .before .before .before .before .before .before .before)) s (lost s (rw (c .before .enum-told .given .1) at (c .before .before .before .before .before .memory .ensures)))) (c .refusal3 .ensures)
 
-memory : (c : tie.After-known-told) → (let told = c .before .nodes .given .0 in Memory (c .before .before .before .before .before .before .before .before .before .before .before .before .before .before .before .args .s .now) (told .0) (told .1 .0))
-memory c = found _ (rw (c .before .nodes .given .1) at (c .before .before .before .memory .ensures))
+memory : (c : tie.After-known-told) → (let told = c .before .nodes .given .0 in Memory (c .before .before .before .before .before .before .before .before .before .before .before .before .before .before .before .before .before .before .args .s .now) (told .0) (told .1 .0))
+memory c = found _ (rw (c .before .nodes .given .1) at (c .before .before .before .before .before .memory .ensures))
 
 refusal-requires-4 : tie.Need-refusal-requires-4
 refusal-requires-4 c κs = search needs
 
-same-length-3 : tie.Need-same-length-3
-same-length-3 c = c .before .before .before .before .before .before .before .before .before .before .accept .kept .1 .0
+same-length-4 : tie.Need-same-length-4
+same-length-4 c = c .before .before .before .before .before .before .before .memory .kept .1 .0
+
+same-length-5 : tie.Need-same-length-5
+same-length-5 c = c .before .before .before .before .before .before .before .before .before .before .before .before .before .accept .kept .1 .0
 
 returns-4 : tie.Need-returns-4
-returns-4 c = rw (sound-unknown (begun (c .before .before .before .before .before .before)) (memory (c .before .before)) (c .before .if3 .taken)) (c .refusal4 .ensures)
+returns-4 c = rw (sound-unknown (begun (c .before .before .before .before .before .before .before .before .before)) (memory (c .before .before)) (c .before .if3 .taken)) (c .refusal4 .ensures)
 
 refusal-requires-5 : tie.Need-refusal-requires-5
 refusal-requires-5 c κs = search needs
 
-same-length-4 : tie.Need-same-length-4
-same-length-4 c = c .before .before .before .before .before .before .before .before .before .before .before .accept .kept .1 .0
+same-length-6 : tie.Need-same-length-6
+same-length-6 c = c .before .before .before .before .before .before .before .before .memory .kept .1 .0
+
+same-length-7 : tie.Need-same-length-7
+same-length-7 c = c .before .before .before .before .before .before .before .before .before .before .before .before .before .before .accept .kept .1 .0
 
 returns-5 : tie.Need-returns-5
-returns-5 c = rw (sound-many (begun (c .before .before .before .before .before .before .before)) (memory (c .before .before .before)) (c .before .before .if3 .left) (c .before .if4 .taken)) (c .refusal5 .ensures)
+returns-5 c = rw (sound-many (begun (c .before .before .before .before .before .before .before .before .before .before)) (memory (c .before .before .before)) (c .before .before .if3 .left) (c .before .if4 .taken)) (c .refusal5 .ensures)
 
 load-requires : tie.Need-load-requires
-load-requires c κs = loadable (memory (c .before .before .before)) (c .before .if4 .left) (begun (c .before .before .before .before .before .before .before) .enough)
+load-requires c κs = loadable (memory (c .before .before .before)) (c .before .if4 .left) (rw (c .before .before .before .before .before .before .before .before .memory .kept .1 .0) (begun (c .before .before .before .before .before .before .before .before .before .before) .enough))
 
 sound-requires : tie.Need-sound-requires
 sound-requires c κs = standing (memory (c .before .before .before .before .before .before .before)) (c .before .before .before .load .ensures) (c .before .before .before .before .before .if4 .left) (omega arith)
@@ -88,17 +98,17 @@ sound-requires c κs = standing (memory (c .before .before .before .before .befo
 said-requires : tie.Need-said-requires
 said-requires c κs = search needs
 
-same-length-5 : tie.Need-same-length-5
-same-length-5 c = c .before .before .before .before .before .load .kept .1 .1 .1 .0
+same-length-8 : tie.Need-same-length-8
+same-length-8 c = c .before .before .before .before .before .load .kept .1 .1 .1 .0 ∙ c .before .before .before .before .before .before .before .before .before .before .before .before .before .before .memory .kept .1 .0
 
-same-length-6 : tie.Need-same-length-6
-same-length-6 c = c .before .before .before .before .before .before .before .before .before .before .before .before .before .before .before .before .before .accept .kept .1 .0
+same-length-9 : tie.Need-same-length-9
+same-length-9 c = c .before .before .before .before .before .before .before .before .before .before .before .before .before .before .before .before .before .before .before .before .accept .kept .1 .0
 
 returns-6 : tie.Need-returns-6
 returns-6 c =
     let m = memory (c .before .before .before .before .before .before .before .before .before) in
     rw (
-      sound-said (begun (c .before .before .before .before .before .before .before .before .before .before .before .before .before)) m (c .before .before .before .before .before .before .before .before .if3 .left) (c .before .before .before .before .before .before .before .if4 .left),
+      sound-said (begun (c .before .before .before .before .before .before .before .before .before .before .before .before .before .before .before .before)) m (c .before .before .before .before .before .before .before .before .if3 .left) (c .before .before .before .before .before .before .before .if4 .left),
       ← tested m (c .before .before .before .before .before .load .ensures) (c .before .sound .ensures),
     )
     (c .said .ensures)
@@ -118,16 +128,19 @@ sound-spec =
     enum-told
     refusal-requires-3
     same-length-2
+    same-length-3
     returns-3
     refusal-requires-4
-    same-length-3
+    same-length-4
+    same-length-5
     returns-4
     refusal-requires-5
-    same-length-4
+    same-length-6
+    same-length-7
     returns-5
     load-requires
     sound-requires
     said-requires
-    same-length-5
-    same-length-6
+    same-length-8
+    same-length-9
     returns-6)

@@ -9,10 +9,10 @@ nodes-requires : tie.Need-nodes-requires
 nodes-requires c κs = room (c .before .pre)
 
 add-result : tie.Need-add-result
-add-result c = omega (arith, counted (c .before .before .pre) (c .nodes .result) (c .nodes .ensures) .few)
+add-result c = omega (arith, counted (c .before .before .pre) (c .nodes .result) (c .nodes .ensures .0) .few)
 
 returns : tie.Need-returns
-returns c = counted (c .before .before .pre) (c .nodes .result) (c .nodes .ensures)
+returns c = counted (c .before .before .pre) (c .nodes .result) (c .nodes .ensures .0)
 
 pub past-spec : {M : Type 1} → statement M
 past-spec = tie.close (tie.spec nodes-requires add-result returns)
