@@ -10,8 +10,8 @@
  * and a report buffer, where the call has one, is zeroed. docs/SPECIFICATION.md has the formats and
  * the rules; all numbers in streams are little-endian.
  *
- * Stack: merging and asking types for support recurse. 1 MiB was enough for the deepest calls that
- * are known, which take nearly all of it; this is measured, not proved.
+ * Stack: merging and asking types for support recurse. 640 KiB was enough for the deepest calls
+ * that are known; this is measured, not proved.
  *
  * Time: every call ends, and the placings of a merge are bounded, but not the questions that its
  * layout test asks of types. A table with dynamic elements inside of dynamic elements can make them

@@ -24,11 +24,11 @@ const FIRST_REPORT: usize = 256;
 /// answer needs more. Nothing that a call answers depends on the calls before it.
 ///
 /// Usages of over 512 nodes together are refused, not merged; a larger value is still written and
-/// read whole before that. Merging and support recurse in the library: 1 MiB of stack was enough for
-/// the deepest calls that are known, which take nearly all of it. Support remembers answers, so that
-/// small questions which take the source very long are answered at once; but over a table with
-/// dynamic elements inside of dynamic elements a question can still take long, so run a call on
-/// tables or usages from strangers where it can be stopped.
+/// read whole before that. Merging and support recurse in the library: 640 KiB of stack was enough
+/// for the deepest calls that are known. Support remembers answers, so that small questions which
+/// take the source very long are answered at once; but over a table with dynamic elements inside of
+/// dynamic elements a question can still take long, so run a call on tables or usages from strangers
+/// where it can be stopped.
 ///
 /// ```
 /// use usage_merger::{QPtrMemUsage, Table, UsageMerger};

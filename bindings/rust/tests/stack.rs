@@ -1,5 +1,5 @@
 //! Deep input on a small stack: reading, writing and refusing need next to none of it, merging at
-//! most a mebibyte.
+//! most 700 KiB.
 
 use std::thread;
 use usage_merger::calls::{Buffers, MOST_NODES, Setting, WORK_AREA, merge};
@@ -43,7 +43,7 @@ fn a_deep_value_is_written() {
 
 /// The deepest merge that is known: 512 nodes, each of which is one level, and 1,024 types below.
 #[test]
-fn a_mebibyte_is_enough_for_the_deepest_merge() {
+fn kibibytes_700_are_enough_for_the_deepest_merge() {
     let wrappers: String = (0..1_023).map(|ty| format!("; fields 4 {{0:{ty}}}")).collect();
     let table: Table = format!("scalar 4{wrappers}").parse().unwrap();
     let nest = |inside: &str| format!("{}{inside}", "A4,4,".repeat(254)).parse().unwrap();
@@ -51,7 +51,7 @@ fn a_mebibyte_is_enough_for_the_deepest_merge() {
     assert_eq!(first.nodes() + second.nodes(), MOST_NODES);
     let streams = [&first, &second].map(|usage| usage.to_bytes().unwrap());
     let table = table.to_bytes().unwrap();
-    let answer = on_stack(1024, move || {
+    let answer = on_stack(700, move || {
         let (mut work, mut output, mut report) = (vec![0; WORK_AREA], vec![0; 8_192], vec![0; 64]);
         let setting = Setting { table: &table, work: &mut work };
         let to = Buffers { output: &mut output, report: &mut report };
