@@ -86,6 +86,9 @@ module _ {b places : List ℕ} {ty : ℕ} {r : TypeLayout} {size d at count : �
       finds l y y′ a (from-known a (λ c f. field-in (w .table) (w .placed) (w .below) f .0) (h .type))
       λ st p k. h .is st λ c f. p c (field-in (st .table) p k f .1)
 
+  pub finds-first-field : {from s e : ℕ} {a : Containing} → from ≡ 0 → InFields b places at count 0 s e a → Finds b places ty from s e a
+  finds-first-field z h = rw z (finds-field h)
+
 -- what is not concrete has no components
 pub finds-nothing : {b places : List ℕ} {ty from s e : ℕ} {r v : TypeLayout} → LayoutIs b places ty r → r ≡ v → isConcrete (layoutIn b v) ≡ false → Finds b places ty from s e Nothing
 finds-nothing {b} {ty = ty} {v = v} l y f = record {

@@ -489,7 +489,13 @@ pub fn find_components_containing(
                 }
                 Containing::Nothing
             }
-            Components::Fields { at, count } => in_fields(s, places, at, count, from, start, end),
+            Components::Fields { at, count } => {
+                // Most questions end with the first search. It is compiled for itself, with all that its loop needs in registers.
+                if from == 0 {
+                    return in_fields(s, places, at, count, 0, start, end);
+                }
+                in_fields(s, places, at, count, from, start, end)
+            }
         },
         TypeLayout::Handle => Containing::Nothing,
         TypeLayout::Failed => Containing::Nothing,

@@ -390,10 +390,10 @@ fn supports_inside(
     ensures { λ r. ⌜ Says (now (table .entry)) (now (places .entry)) ty at (now (s .entry)) q whole r ⌝ }
     ensures { λ r. ⌜ Kept (now (table .entry)) (now (places .entry)) (now (s .entry)) (now (s .exit)) (now (answers .entry)) (now (answers .exit)) ⌝ }
 {
-    match test_whole(table, places, ty, at, s, q, whole) {
+    match test_whole(&*table, &*places, ty, at, s, q, whole) {
         First::No => false,
         First::Yes => true,
-        First::Open => { supports_or_recalls(table, places, ty, at, s, q, answers, whole) }
+        First::Open => { supports_or_recalls(&*table, &*places, ty, at, s, q, answers, whole) }
     }
 }
 
