@@ -100,7 +100,7 @@ module _ {table places s : List ℕ} {a b : ℕ} (R : Ready table places s a b) 
       stands = R .two .right;
       few = omega (arith, R .two .few);
       within = R .right-in;
-      linkable = R .linkable;
+      numbered = omega (arith, R .right-in, R .linkable);
     };
   }
     where
@@ -122,7 +122,7 @@ module _ {table places s : List ℕ} {a b : ℕ} (R : Ready table places s a b) 
       stands = R .two .left;
       few = omega (arith, R .two .few);
       within = R .left-in;
-      linkable = R .linkable;
+      numbered = omega (arith, R .left-in, R .linkable);
     };
   }
     where

@@ -57,7 +57,7 @@ askable = record {
     stands = (record { some = omega arith; inside = omega arith; low = omega arith; high = omega arith; command = refl; size = refl }, refl);
     few = omega arith;
     within = omega arith;
-    linkable = omega arith;
+    numbered = omega arith;
   };
 }
 

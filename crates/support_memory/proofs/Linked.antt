@@ -5,7 +5,6 @@ use Prim.Native.Nat.{ℕ, suc, _+_, _≤_, _<_}
 use mathlib.Core.Path.{_≡_, sym, ap, _∙_, subst}
 use mathlib.Core.List.{List}
 use native.Mathlib.Omega.{arith}
-use lib.ListN.{length}
 use Rattle.definitions.specs.Limits.{nodeLimit}
 use Rattle.definitions.specs.Usage.{Entries, none, entry, count, nodes, nodesIn}
 use Rattle.definitions.proofs.Nodes.{some-node}
@@ -32,9 +31,9 @@ record Element (s : List ℕ) (q : ℕ) : Type 0 where
   usage : UsageAt s (childIn s q)
   smaller : nodesAt s (childIn s q) < nodesAt s q
 
-element-of : {s : List ℕ} {q : ℕ} → commandIn s q ≡ 4 → UsageAt s q → Element s q
+element-of : {s : List ℕ} {q : ℕ} → childIn s q < 65536 → commandIn s q ≡ 4 → UsageAt s q → Element s q
 unfolding Stands
-element-of {s} {q} k w =
+element-of {s} {q} l k w =
     on-array (λ v. nodesAt s q ≡ nodes v → nodes v ≤ nodeLimit → Element s q) s q (w .rank) (w .lo) (w .hi) k
     (λ z n e a x few.
     let e-few : nodes e ≤ nodeLimit = omega arith in
@@ -46,17 +45,17 @@ element-of {s} {q} k w =
       stands = a .2;
       few = e-few;
       within = stands-root e s (childIn s q) (w .rank) (suc (w .rank q)) (w .hi) (a .2) .inside;
-      linkable = w .linkable;
+      numbered = l;
     } in
     record { usage = v; smaller = omega (arith, nodes-at e s (childIn s q) (w .rank) (suc (w .rank q)) (w .hi) (a .2) (omega arith)) })
     (w .usage) (w .stands) (nodes-are w) (w .few)
 
 module _ {s : List ℕ} {q c : ℕ} (k : commandIn s q ≡ 4) (w : UsageAt s q) (z : (c ≡ childIn s q) × (c < 65536)) where
   pub element-usage : UsageAt s c
-  element-usage = subst (UsageAt s) (sym (z .0)) (element-of k w .usage)
+  element-usage = subst (UsageAt s) (sym (z .0)) (element-of (omega (arith, z)) k w .usage)
 
   pub element-smaller : nodesAt s c < nodesAt s q
-  element-smaller = omega (arith, ap (nodesAt s) (z .0), element-of k w .smaller)
+  element-smaller = omega (arith, ap (nodesAt s) (z .0), element-of (omega (arith, z)) k w .smaller)
 
 -- The entries of the map at record q that are linked from record e on
 
@@ -68,7 +67,7 @@ pub record Linked (s : List ℕ) (q e : ℕ) : Type 0 where
   pub row : Row left s e 0 rank lo hi
   pub fewer : nodesIn left < nodesAt s q
   pub few : nodesIn left < nodeLimit
-  pub linkable : length s ≤ 2097152
+  pub numbered : e < 65536
   pub along : (i : ℕ) → Along s e i → Along s (childIn s q) i
 
 -- what is linked to others, and is no array, is a map
@@ -90,7 +89,7 @@ first-linked {s} {q} {e} k w x =
       row = subst (λ (y : ℕ). Row es s y 0 (w .rank) (suc (w .rank q)) (w .hi)) (sym (x .0)) (a .2);
       fewer = omega arith;
       few = omega arith;
-      linkable = w .linkable;
+      numbered = x .1;
       along = λ i h. subst (λ (y : ℕ). Along s y i) (x .0) h;
     })
     (w .usage) (w .stands) (nodes-are w) (w .few)
@@ -115,7 +114,7 @@ module _ {s : List ℕ} {q e : ℕ} (L : Linked s q e) (ne : e ≡ 0 → ⊥) wh
     stands = H .stands;
     few = omega (arith, parts, L .few);
     within = stands-root (H .u) s e (L .rank) (L .lo) (H .m) (H .stands) .inside;
-    linkable = L .linkable;
+    numbered = L .numbered;
   }
 
   pub entry-smaller : nodesAt s e < nodesAt s q
@@ -128,8 +127,8 @@ module _ {s : List ℕ} {q e : ℕ} (L : Linked s q e) (ne : e ≡ 0 → ⊥) wh
   entry-child k = Child.entry k (L .along e (Along.first e ne))
 
   module _ {n : ℕ} (x : n ≡ nextIn s e) where
-    pub next-linked : Linked s q n
-    next-linked = record {
+    pub next-linked : n < 65536 → Linked s q n
+    next-linked l = record {
       left = H .rest;
       rank = L .rank;
       lo = H .m;
@@ -137,7 +136,7 @@ module _ {s : List ℕ} {q e : ℕ} (L : Linked s q e) (ne : e ≡ 0 → ⊥) wh
       row = subst (λ (y : ℕ). Row (H .rest) s y 0 (L .rank) (H .m) (L .hi)) (sym x) (H .row);
       fewer = omega (arith, parts, L .fewer);
       few = omega (arith, parts, L .few);
-      linkable = L .linkable;
+      numbered = l;
       along = λ i h. L .along i (Along.later e i ne (subst (λ (y : ℕ). Along s y i) x h));
     }
 

@@ -20,10 +20,6 @@ unchanged-both A B = record { len = B .len ∙ A .len; same = λ i. B .same i �
 pub unchanged-marked : {s s′ : List ℕ} {q t p : ℕ} → Marked s s′ q t p → length s′ ≡ length s → Unchanged s s′
 unchanged-marked m l = record { len = l; same = m .same }
 
--- the number of a record fits two bytes
-pub node-few : {s : List ℕ} {q : ℕ} → UsageAt s q → q < 65536
-node-few w = omega (arith, w .within, w .linkable)
-
 module _ {s s′ : List ℕ} (U : Unchanged s s′) where
   pub there : (u : Usage) (q : ℕ) (r : ℕ → ℕ) (lo hi : ℕ) → Stands u s q r lo hi → Stands u s′ q r lo hi
   there u q r lo hi = stands-marks u s s′ q r lo hi (U .len) (U .same)
@@ -52,7 +48,7 @@ module _ {s s′ : List ℕ} (U : Unchanged s s′) where
     stands = there (w .usage) q (w .rank) (w .lo) (w .hi) (w .stands);
     few = w .few;
     within = omega (arith, w .within, U .len);
-    linkable = omega (arith, w .linkable, U .len);
+    numbered = w .numbered;
   }
 
   along-back : {q i : ℕ} → Along s′ q i → Along s q i

@@ -1,6 +1,6 @@
 -- The nodes of a usage that stands in linked records: which records they are, and that they remember nothing.
 -- Assumes nothing.
-use Prim.Native.Nat.{ℕ, _+_, _*_, _≤_}
+use Prim.Native.Nat.{ℕ, _+_, _*_, _<_, _≤_}
 use mathlib.Core.Path.{_≡_}
 use mathlib.Core.List.{List}
 use lib.ListN.{length}
@@ -9,7 +9,7 @@ use Rattle.definitions.specs.Usage.{Usage, nodes}
 use Rattle.records.specs.Records.{commandIn, nextIn, childIn, tagIn, cell}
 use Rattle.links.specs.Standing.{Stands}
 
--- some usage is record q
+-- some usage is record q, whose number fits two bytes
 pub record UsageAt (s : List ℕ) (q : ℕ) : Type 0 where
   pub usage : Usage
   pub rank : ℕ → ℕ
@@ -18,7 +18,7 @@ pub record UsageAt (s : List ℕ) (q : ℕ) : Type 0 where
   pub stands : Stands usage s q rank lo hi
   pub few : nodes usage ≤ nodeLimit
   pub within : q * 32 + 32 ≤ length s
-  pub linkable : length s ≤ 2097152
+  pub numbered : q < 65536
 
 -- each record says what it said, so that each usage stands where it stood
 pub record Unchanged (s s′ : List ℕ) : Type 0 where

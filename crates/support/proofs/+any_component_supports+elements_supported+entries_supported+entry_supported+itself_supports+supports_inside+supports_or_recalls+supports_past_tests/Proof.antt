@@ -12,7 +12,7 @@ use borrow.Fn.PlainCycle.{Measures, is, falls, and}
 use Rattle.links.specs.Rows.{chain, nodesAt}
 use Rattle.layout.proofs.Uses.{component-below}
 use Rattle.support_memory.specs.Nodes.{Child, Child.element}
-use Rattle.support_memory.proofs.Staying.{unchanged-both, next-stays, node-few}
+use Rattle.support_memory.proofs.Staying.{unchanged-both, next-stays}
 use Rattle.support_memory.proofs.Linked.{Linked, nodes-stay, element-usage, element-smaller, first-linked, next-linked, chain-falls, entry-usage, entry-smaller, entry-child}
 use Rattle.support.proofs.Types.{concrete-type, asks-earlier, asks-concrete}
 use Rattle.support.proofs.Components.{AskedFrom, asked-first, none-asked, one-asked, more-asked, next-later}
@@ -320,7 +320,7 @@ entries-loop-again t c =
     let asked = c .before .before .before .before .before .before .before .entry-supported in
     let K = I .2 .kept in
     let x = c .next .ensures .0 ∙ next-stays (unchanged-both (K .records) (asked .ensures .1 .records)) (c .before .before .before .before .before .before .before .before .before .before .before .loop .e) in (
-      next-linked (I .0) ne x,
+      next-linked (I .0) ne x (c .next .ensures .1),
       walk-goes-on (I .1) ne (entry-before (K .records) (asked .ensures .0)) x (not-false (asked .result) (c .before .before .if1 .left)),
       turned-more (I .2) (asked .ensures .1) (search needs),
     )
@@ -487,7 +487,7 @@ recalling-claims t = (recall-whole-reads.Asked, recall-whole-reads.Learnt, teste
 recalling-recall-whole-requires : (t : ℕ) → recalling-lts.Need-recall-whole-requires (recalling-claims t) (recalling-at t) recalling.Post
 recalling-recall-whole-requires t c κs =
     let p = c .before .before .before .before .before .before .pre .1 .0 .asks in
-    (type-few (p .type), node-few (p .usage), omega (arith, p .usage .within))
+    (type-few (p .type), p .usage .numbered, omega (arith, p .usage .within))
 
 recalling-enum-told : (t : ℕ) → recalling-lts.Need-enum-told (recalling-claims t) (recalling-at t) recalling.Post
 recalling-enum-told t c = search needs
@@ -513,7 +513,7 @@ recalling-returns t c = c .before .before .before .before .before .supports-past
 recalling-remember-requires : (t : ℕ) → recalling-lts.Need-remember-requires (recalling-claims t) (recalling-at t) recalling.Post
 recalling-remember-requires t c κs =
     let p = c .before .before .before .before .before .before .before .before .before .before .before .before .before .before .before .before .before .before .before .pre .1 .0 .asks in
-    (type-few (p .type), node-few (p .usage), omega (arith, p .usage .within))
+    (type-few (p .type), p .usage .numbered, omega (arith, p .usage .within))
 
 recalling-same-length-3 : (t : ℕ) → recalling-lts.Need-same-length-3 (recalling-claims t) (recalling-at t) recalling.Post
 recalling-same-length-3 t c = search needs

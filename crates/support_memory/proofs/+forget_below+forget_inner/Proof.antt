@@ -115,7 +115,7 @@ below-loop-again : (t : ℕ) → below-lts.Need-loop-again (below-claims t) (bel
 below-loop-again t c =
     let I = c .before .before .before .before .before .before .before .loop .inv in
     let U = unchanged-both (I .1 .records) (c .before .before .before .before .forget-inner2 .ensures .records) in
-    (next-linked (I .0) (c .before .before .before .before .before .before .loop-test .taken) (c .next .ensures .0 ∙ next-stays U (c .before .before .before .before .before .before .before .loop .e)), clearing-one (I .1) (c .before .before .before .before .forget-inner2 .ensures) (c .next .ensures))
+    (next-linked (I .0) (c .before .before .before .before .before .before .loop-test .taken) (c .next .ensures .0 ∙ next-stays U (c .before .before .before .before .before .before .before .loop .e)) (c .next .ensures .1), clearing-one (I .1) (c .before .before .before .before .forget-inner2 .ensures) (c .next .ensures))
 
 below-same-length-2 : (t : ℕ) → below-lts.Need-same-length-2 (below-claims t) (below-at t) below.Post below-Inv-loop below-μ-loop
 below-same-length-2 t c = search needs
