@@ -24,6 +24,7 @@ use records::command;
 use records::max_size;
 use records::next;
 use records::offset;
+use support_memory::IN_TURNS;
 use support_memory::LONG_WORDS;
 use support_memory::Recalled;
 use support_memory::SHORT_WORDS;
@@ -454,11 +455,11 @@ pub fn supports_usage_at_offset(
         First::Yes => true,
         First::Open => {
             let seen = forget(s, q);
-            if !seen.in_turns {
+            if seen < IN_TURNS {
                 let mut answers = [0u32; 1];
                 return supports_or_recalls(table, places, ty, at, s, q, &mut answers, true);
             }
-            if asks_few(seen.nodes, ty) {
+            if asks_few(seen % IN_TURNS, ty) {
                 return supports_with_few(table, places, ty, at, s, q);
             }
             supports_with_many(table, places, ty, at, s, q)

@@ -16,7 +16,7 @@ use Rattle.links.proofs.Rows.{Head, head}
 use Rattle.links.proofs.Chains.{chain-many}
 use Rattle.links.proofs.Weights.{nodes-at}
 use Rattle.support_memory.specs.Nodes.{UsageAt, Unchanged, Along, Along.first, Along.later, Child, Child.entry}
-use Rattle.support_memory.proofs.Roots.{by-kind, on-map, on-array}
+use Rattle.support_memory.proofs.Roots.{on-map, on-array}
 use Rattle.support_memory.proofs.Staying.{usage-after}
 
 pub nodes-are : {s : List ℕ} {q : ℕ} (w : UsageAt s q) → nodesAt s q ≡ nodes (w .usage)
@@ -69,13 +69,6 @@ pub record Linked (s : List ℕ) (q e : ℕ) : Type 0 where
   pub few : nodesIn left < nodeLimit
   pub numbered : e < 65536
   pub along : (i : ℕ) → Along s e i → Along s (childIn s q) i
-
--- what is linked to others, and is no array, is a map
-pub is-map : {s : List ℕ} {q k : ℕ} → UsageAt s q → (k ≡ commandIn s q) × (k < 65536) → 3 ≤ commandIn s q → (k ≡ 4 → ⊥) → commandIn s q ≡ 3
-is-map {s} {q} w x l n =
-    by-kind (λ v. commandIn s q ≡ 3) s q (w .rank) (w .lo) (w .hi)
-    (λ z c a. absurd (omega arith)) (λ z k t c a. absurd (omega arith)) (λ z es c a. c) (λ z m e c a. absurd (n (x .0 ∙ c)))
-    (w .usage) (w .stands)
 
 pub first-linked : {s : List ℕ} {q e : ℕ} → commandIn s q ≡ 3 → UsageAt s q → (e ≡ childIn s q) × (e < 65536) → Linked s q e
 unfolding Stands

@@ -1,6 +1,5 @@
 // What questions of support remember: answers that were given, in the spare words of the nodes and in a list.
 ghost use mathlib.Core.Path.{_≡_};
-ghost use mathlib.Core.Bool.{_||_};
 ghost use Prim.Native.Nat.{_+_, _*_, _<_, _≤_};
 ghost use lib.ListN.{length};
 ghost use Rattle.records.specs.Records.{commandIn, sizeIn, tagIn};
@@ -140,74 +139,59 @@ fn is_empty(s: &[u8], q: usize) -> bool
     }
 }
 
-// What is seen of the nodes while they forget. Nothing is promised of it, since it only chooses how long a list of answers is: with
-// any list the same is supported.
-pub struct Seen {
-    pub nodes: usize,
-    // Can the same questions come back in turns? They can where one question leads to several: for a usage of size 0, which many
-    // components contain, and for maps and arrays inside of others, whose offsets differ by the way.
-    pub in_turns: bool,
-}
+// What a node adds to the count of those that forget, besides one, where the same questions about it can come back in turns. They can
+// where one question leads to several: for a usage of size 0, which many components contain, and for maps and arrays inside of others,
+// whose offsets differ by the way. Of the count nothing is promised, since it only chooses how long a list of answers is: with any list
+// the same is supported.
+pub const IN_TURNS: usize = 65536;
 
-fn either(a: bool, b: bool) -> bool
-    ensures { λ r. ⌜ r ≡ (a || b) ⌝ }
-{
-    if a {
-        return true;
+fn counted(in_turns: bool) -> usize {
+    if in_turns {
+        return 1 + IN_TURNS;
     }
-    b
-}
-
-// One more node is seen.
-fn with_node(seen: Seen, in_turns: bool) -> Seen {
-    Seen {
-        nodes: std::num::wrapping_add_usize(seen.nodes, 1),
-        in_turns: either(seen.in_turns, in_turns),
-    }
+    1
 }
 
 // The usage at record q, which is inside of another, remembers nothing.
-fn forget_inner(s: &mut [u8], q: usize, seen: Seen) -> Seen
+fn forget_inner(s: &mut [u8], q: usize) -> usize
     requires { ⌜ UsageAt (now s) q ⌝ }
     ensures { λ r. ⌜ Forgotten (now (s .entry)) (now (s .exit)) q ⌝ }
 {
     put_mark(s, q, 0, 0);
     if command(s, q) < 3 {
-        return with_node(seen, is_empty(s, q));
+        return counted(is_empty(s, q));
     }
-    forget_below(s, q, with_node(seen, true))
+    forget_below(s, q, counted(true))
 }
 
-// Record q has forgotten, and so does what is below it: its element, or its entries.
-fn forget_below(s: &mut [u8], q: usize, seen: Seen) -> Seen
+// Record q has forgotten, and so does what is below it: its element, or its entries. They are added to the count.
+fn forget_below(s: &mut [u8], q: usize, count: usize) -> usize
     requires { ⌜ UsageAt (now s) q ⌝ }
     requires { ⌜ (3 ≤ commandIn (now s) q) × (tagIn (now s) q ≡ 0) ⌝ }
     ensures { λ r. ⌜ Forgotten (now (s .entry)) (now (s .exit)) q ⌝ }
 {
-    if command(s, q) == 4 {
-        return forget_inner(s, child(s, q), seen);
-    }
-    let mut seen = seen;
+    let is_array = command(s, q) == 4;
+    let mut n = count;
     let mut e = child(s, q);
     while e != 0 {
-        seen = forget_inner(s, e, seen);
+        n = std::num::wrapping_add_usize(n, forget_inner(s, e));
+        if is_array {
+            return n;
+        }
         e = next(s, e);
     }
-    seen
+    n
 }
 
 // The usage at record q remembers nothing.
-pub fn forget(s: &mut [u8], q: usize) -> Seen
+pub fn forget(s: &mut [u8], q: usize) -> usize
     requires { ⌜ UsageAt (now s) q ⌝ }
     ensures { λ r. ⌜ Forgotten (now (s .entry)) (now (s .exit)) q ⌝ }
 {
     put_mark(s, q, 0, 0);
-    let seen = Seen {
-        nodes: 1,
-        in_turns: is_empty(s, q),
-    };
+    let n = counted(is_empty(s, q));
     if command(s, q) < 3 {
-        return seen;
+        return n;
     }
-    forget_below(s, q, seen)
+    forget_below(s, q, n)
 }

@@ -39,28 +39,28 @@ slice-aggregate-supports-or-recalls : tie.Need-slice-aggregate-supports-or-recal
 slice-aggregate-supports-or-recalls c = search needs
 
 supports-or-recalls-requires : tie.Need-supports-or-recalls-requires
-supports-or-recalls-requires c κs = let o = left (c .before .before .before .before) in (asks-concrete (asks (c .before .before .before .before)) (o .components), (blank-memory 1 (c .before .before .before .before .before .before .forget .ensures .blank), λ e. o))
+supports-or-recalls-requires c κs = let o = left (c .before .before .before) in (asks-concrete (asks (c .before .before .before)) (o .components), (blank-memory 1 (c .before .before .before .before .before .forget .ensures .blank), λ e. o))
 
 same-length : tie.Need-same-length
 same-length c = search needs
 
 returns : tie.Need-returns
-returns c = let G = c .before .before .before .before .before .before .before .before .before .before .forget .ensures in let told = c .before .before .before .supports-or-recalls .ensures in (supports-before (G .records) (whole-says (told .0)), unchanged-both (G .records) (told .1 .records))
+returns c = let G = c .before .before .before .before .before .before .before .before .before .forget .ensures in let told = c .before .before .before .supports-or-recalls .ensures in (supports-before (G .records) (whole-says (told .0)), unchanged-both (G .records) (told .1 .records))
 
 asks-few-requires : tie.Need-asks-few-requires
 asks-few-requires c κs = search needs
 
 supports-with-few-requires : tie.Need-supports-with-few-requires
-supports-with-few-requires c κs = (asks (c .before .before .before .before .before), (c .before .before .before .before .before .before .before .forget .ensures .blank, left (c .before .before .before .before .before)))
+supports-with-few-requires c κs = (asks (c .before .before .before .before), (c .before .before .before .before .before .before .forget .ensures .blank, left (c .before .before .before .before)))
 
 same-length-2 : tie.Need-same-length-2
 same-length-2 c = search needs
 
 returns-2 : tie.Need-returns-2
-returns-2 c = let G = c .before .before .before .before .before .before .before .before .before .before .forget .ensures in let told = c .before .before .supports-with-few .ensures in (supports-before (G .records) (told .0), unchanged-both (G .records) (told .1))
+returns-2 c = let G = c .before .before .before .before .before .before .before .before .before .forget .ensures in let told = c .before .before .supports-with-few .ensures in (supports-before (G .records) (told .0), unchanged-both (G .records) (told .1))
 
 supports-with-many-requires : tie.Need-supports-with-many-requires
-supports-with-many-requires c κs = (asks (c .before .before .before .before .before), (c .before .before .before .before .before .before .before .forget .ensures .blank, left (c .before .before .before .before .before)))
+supports-with-many-requires c κs = (asks (c .before .before .before .before), (c .before .before .before .before .before .before .forget .ensures .blank, left (c .before .before .before .before)))
 
 same-length-3 : tie.Need-same-length-3
 same-length-3 c = search needs
@@ -78,7 +78,7 @@ same-length-5 : tie.Need-same-length-5
 same-length-5 c = search needs
 
 returns-5 : tie.Need-returns-5
-returns-5 c = let G = c .before .before .before .before .before .before .before .before .before .before .forget .ensures in let told = c .before .before .supports-with-many .ensures in (supports-before (G .records) (told .0), unchanged-both (G .records) (told .1))
+returns-5 c = let G = c .before .before .before .before .before .before .before .before .before .forget .ensures in let told = c .before .before .supports-with-many .ensures in (supports-before (G .records) (told .0), unchanged-both (G .records) (told .1))
 
 pub supports-usage-at-offset-spec : {M : Type 1} → statement M
 supports-usage-at-offset-spec =

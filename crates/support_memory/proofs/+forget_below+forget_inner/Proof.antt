@@ -3,11 +3,10 @@
 use borrow.Author.Needs.{needs}
 use Prim.Native.Nat.{ℕ, _+_, _*_, _<_}
 use native.Mathlib.Omega.{arith}
-use mathlib.Core.Path.{sym, _∙_}
 use Rattle.links.specs.Rows.{chain, nodesAt}
-use Rattle.support_memory.proofs.Staying.{unchanged-both, unchanged-marked, next-stays, usage-after}
-use Rattle.support_memory.proofs.Linked.{Linked, nodes-stay, element-usage, element-smaller, is-map, first-linked, next-linked, chain-falls, entry-usage, entry-smaller}
-use Rattle.support_memory.proofs.Forgetting.{Clearing, clearing-none, clearing-one, clearing-all, forgot-leaf, forgot-all, forgot-element}
+use Rattle.support_memory.proofs.Staying.{unchanged-marked, usage-after}
+use Rattle.support_memory.proofs.Linked.{nodes-stay}
+use Rattle.support_memory.proofs.Forgetting.{Going, going-first, going-usage, going-fewer, going-within, going-element, going-next, going-falls, going-over, forgot-leaf, forgot-all}
 use borrow.Fn.Kinds.{In}
 use borrow.Fn.PlainCycle.{Measures, is, falls, and}
 use Rattle.support_memory.proofs.forget_below.Reads as below
@@ -20,8 +19,9 @@ use Rattle.records.proofs.child.Reads as child-reads
 use Rattle.records.proofs.command.Reads as command-reads
 use Rattle.records.proofs.next.Reads as next-reads
 use Rattle.records.proofs.put_mark.Reads as put-mark-reads
+use Rattle.std.proofs.num.wrapping_add_usize.Reads as wrapping-add-usize-reads
+use Rattle.support_memory.proofs.counted.Reads as counted-reads
 use Rattle.support_memory.proofs.is_empty.Reads as is-empty-reads
-use Rattle.support_memory.proofs.with_node.Reads as with-node-reads
 use Rattle.support_memory.proofs.+forget_below+forget_inner.{statement}
 use Rattle.support_memory.proofs.+forget_below+forget_inner.Tie.{close}
 
@@ -56,16 +56,16 @@ inner-below t =
     inner.Pre
 
 abbrev below-Inv-loop : below-lts.InvT-loop
-below-Inv-loop s₀ q seen₀ e₀ s seen e = Linked s₀ q e × Clearing s₀ s q e
+below-Inv-loop s₀ q count is-array n₀ e₀ s n e = Going s₀ s q is-array e
 
 abbrev below-μ-loop : below-lts.MeasureT-loop
-below-μ-loop s₀ q seen₀ e₀ s seen e = chain 65536 s₀ e
+below-μ-loop s₀ q count is-array n₀ e₀ s n e = chain 65536 s₀ e
 
 abbrev below-claims : ℕ → below-lts.Claims
-below-claims t = (command-reads.Asked, command-reads.Learnt, child-reads.Asked, child-reads.Learnt, inner-below t, inner.Post, next-reads.Asked, next-reads.Learnt)
+below-claims t = (command-reads.Asked, command-reads.Learnt, child-reads.Asked, child-reads.Learnt, inner-below t, inner.Post, wrapping-add-usize-reads.Asked, wrapping-add-usize-reads.Learnt, next-reads.Asked, next-reads.Learnt)
 
 abbrev inner-claims : ℕ → inner-lts.Claims
-inner-claims t = (put-mark-reads.Asked, put-mark-reads.Learnt, command-reads.Asked, command-reads.Learnt, is-empty-reads.Asked, is-empty-reads.Learnt, with-node-reads.Asked, with-node-reads.Learnt, below-below t, below.Post)
+inner-claims t = (put-mark-reads.Asked, put-mark-reads.Learnt, command-reads.Asked, command-reads.Learnt, is-empty-reads.Asked, is-empty-reads.Learnt, counted-reads.Asked, counted-reads.Learnt, below-below t, below.Post)
 
 below-command-requires : (t : ℕ) → below-lts.Need-command-requires (below-claims t) (below-at t) below.Post below-Inv-loop below-μ-loop
 below-command-requires t c κs = search needs
@@ -73,55 +73,37 @@ below-command-requires t c κs = search needs
 below-child-requires : (t : ℕ) → below-lts.Need-child-requires (below-claims t) (below-at t) below.Post below-Inv-loop below-μ-loop
 below-child-requires t c κs = search needs
 
-below-forget-inner-requires : (t : ℕ) → below-lts.Need-forget-inner-requires (below-claims t) (below-at t) below.Post below-Inv-loop below-μ-loop
-below-forget-inner-requires t c κs =
-    let w = c .before .before .before .before .before .before .before .pre .1 .0 in
-    let k = sym (c .before .before .before .before .command .ensures .0) ∙ c .before .before .before .if1 .taken in
-    (omega (arith, element-smaller k w (c .child .ensures)), element-usage k w (c .child .ensures))
+below-loop-holds : (t : ℕ) → below-lts.Need-loop-holds (below-claims t) (below-at t) below.Post below-Inv-loop below-μ-loop
+below-loop-holds t c = search (going-first, needs)
 
-below-same-length : (t : ℕ) → below-lts.Need-same-length (below-claims t) (below-at t) below.Post below-Inv-loop below-μ-loop
-below-same-length t c = search needs
+below-forget-inner-requires : (t : ℕ) → below-lts.Need-forget-inner-requires (below-claims t) (below-at t) below.Post below-Inv-loop below-μ-loop
+below-forget-inner-requires t c κs = (search (going-fewer, needs), search (going-usage, needs))
+
+below-wrapping-add-usize-requires : (t : ℕ) → below-lts.Need-wrapping-add-usize-requires (below-claims t) (below-at t) below.Post below-Inv-loop below-μ-loop
+below-wrapping-add-usize-requires t c κs = search needs
 
 below-returns : (t : ℕ) → below-lts.Need-returns (below-claims t) (below-at t) below.Post below-Inv-loop below-μ-loop
-below-returns t c = search (forgot-element, needs)
+below-returns t c = search (going-element, needs)
 
-below-child-requires-2 : (t : ℕ) → below-lts.Need-child-requires-2 (below-claims t) (below-at t) below.Post below-Inv-loop below-μ-loop
-below-child-requires-2 t c κs = search needs
-
-below-loop-holds : (t : ℕ) → below-lts.Need-loop-holds (below-claims t) (below-at t) below.Post below-Inv-loop below-μ-loop
-below-loop-holds t c =
-    let p = c .before .before .before .before .before .before .pre .1 in
-    (first-linked (is-map (p .0) (c .before .before .before .command .ensures) (p .1 .0) (c .before .before .if1 .left)) (p .0) (c .child2 .ensures), search (clearing-none, needs))
-
-below-forget-inner-requires-2 : (t : ℕ) → below-lts.Need-forget-inner-requires-2 (below-claims t) (below-at t) below.Post below-Inv-loop below-μ-loop
-below-forget-inner-requires-2 t c κs =
-    let I = c .before .before .loop .inv in
-    let U = I .1 .records in
-    let e = entry-usage (I .0) (c .before .loop-test .taken) in
-    (omega (arith, nodes-stay U e, entry-smaller (I .0) (c .before .loop-test .taken)), usage-after U e)
+below-same-length : (t : ℕ) → below-lts.Need-same-length (below-claims t) (below-at t) below.Post below-Inv-loop below-μ-loop
+below-same-length t c = below-returns t c .records .len
 
 below-next-requires : (t : ℕ) → below-lts.Need-next-requires (below-claims t) (below-at t) below.Post below-Inv-loop below-μ-loop
 below-next-requires t c κs =
-    let I = c .before .before .before .before .before .before .loop .inv in
-    omega (arith, I .1 .records .len, entry-usage (I .0) (c .before .before .before .before .before .loop-test .taken) .within)
+    let b = c .before .before .before .before .before .before .before in
+    omega (arith, going-within (b .before .before .before .before .before .before .before .pre .1 .0) (b .loop-test .taken) (b .before .loop .inv))
 
 below-loop-less : (t : ℕ) → below-lts.Need-loop-less (below-claims t) (below-at t) below.Post below-Inv-loop below-μ-loop
-below-loop-less t c =
-    let I = c .before .before .before .before .before .before .before .loop .inv in
-    let U = unchanged-both (I .1 .records) (c .before .before .before .before .forget-inner2 .ensures .records) in
-    chain-falls (I .0) (c .before .before .before .before .before .before .loop-test .taken) (c .next .ensures .0 ∙ next-stays U (c .before .before .before .before .before .before .before .loop .e))
+below-loop-less t c = search (going-falls, needs)
 
 below-loop-again : (t : ℕ) → below-lts.Need-loop-again (below-claims t) (below-at t) below.Post below-Inv-loop below-μ-loop
-below-loop-again t c =
-    let I = c .before .before .before .before .before .before .before .loop .inv in
-    let U = unchanged-both (I .1 .records) (c .before .before .before .before .forget-inner2 .ensures .records) in
-    (next-linked (I .0) (c .before .before .before .before .before .before .loop-test .taken) (c .next .ensures .0 ∙ next-stays U (c .before .before .before .before .before .before .before .loop .e)) (c .next .ensures .1), clearing-one (I .1) (c .before .before .before .before .forget-inner2 .ensures) (c .next .ensures))
-
-below-same-length-2 : (t : ℕ) → below-lts.Need-same-length-2 (below-claims t) (below-at t) below.Post below-Inv-loop below-μ-loop
-below-same-length-2 t c = search needs
+below-loop-again t c = search (going-next, needs)
 
 below-returns-2 : (t : ℕ) → below-lts.Need-returns-2 (below-claims t) (below-at t) below.Post below-Inv-loop below-μ-loop
-below-returns-2 t c = clearing-all (c .before .before .before .before .before .command .ensures) (c .before .before .before .before .if1 .left) (c .before .before .before .before .before .before .before .before .pre .1 .1 .1) (c .before .loop .inv .1) (search needs)
+below-returns-2 t c = search (going-over, needs)
+
+below-same-length-2 : (t : ℕ) → below-lts.Need-same-length-2 (below-claims t) (below-at t) below.Post below-Inv-loop below-μ-loop
+below-same-length-2 t c = below-returns-2 t c .records .len
 
 inner-put-mark-requires : (t : ℕ) → inner-lts.Need-put-mark-requires (inner-claims t) (inner-at t) inner.Post
 inner-put-mark-requires t c κs = search needs
@@ -132,8 +114,8 @@ inner-command-requires t c κs = search needs
 inner-is-empty-requires : (t : ℕ) → inner-lts.Need-is-empty-requires (inner-claims t) (inner-at t) inner.Post
 inner-is-empty-requires t c κs = search needs
 
-inner-with-node-requires : (t : ℕ) → inner-lts.Need-with-node-requires (inner-claims t) (inner-at t) inner.Post
-inner-with-node-requires t c κs = search needs
+inner-counted-requires : (t : ℕ) → inner-lts.Need-counted-requires (inner-claims t) (inner-at t) inner.Post
+inner-counted-requires t c κs = search needs
 
 inner-same-length : (t : ℕ) → inner-lts.Need-same-length (inner-claims t) (inner-at t) inner.Post
 inner-same-length t c = search needs
@@ -141,8 +123,8 @@ inner-same-length t c = search needs
 inner-returns : (t : ℕ) → inner-lts.Need-returns (inner-claims t) (inner-at t) inner.Post
 inner-returns t c = search (forgot-leaf, needs)
 
-inner-with-node-requires-2 : (t : ℕ) → inner-lts.Need-with-node-requires-2 (inner-claims t) (inner-at t) inner.Post
-inner-with-node-requires-2 t c κs = search needs
+inner-counted-requires-2 : (t : ℕ) → inner-lts.Need-counted-requires-2 (inner-claims t) (inner-at t) inner.Post
+inner-counted-requires-2 t c κs = search needs
 
 inner-forget-below-requires : (t : ℕ) → inner-lts.Need-forget-below-requires (inner-claims t) (inner-at t) inner.Post
 inner-forget-below-requires t c κs =
@@ -165,12 +147,11 @@ pub +forget-below+forget-inner-spec : {M : Type 1} → statement M
     below-μ-loop
     (below-command-requires t)
     (below-child-requires t)
+    (below-loop-holds t)
     (below-forget-inner-requires t)
+    (below-wrapping-add-usize-requires t)
     (below-same-length t)
     (below-returns t)
-    (below-child-requires-2 t)
-    (below-loop-holds t)
-    (below-forget-inner-requires-2 t)
     (below-next-requires t)
     (below-loop-less t)
     (below-loop-again t)
@@ -182,10 +163,10 @@ pub +forget-below+forget-inner-spec : {M : Type 1} → statement M
     (inner-put-mark-requires t)
     (inner-command-requires t)
     (inner-is-empty-requires t)
-    (inner-with-node-requires t)
+    (inner-counted-requires t)
     (inner-same-length t)
     (inner-returns t)
-    (inner-with-node-requires-2 t)
+    (inner-counted-requires-2 t)
     (inner-forget-below-requires t)
     (inner-same-length-2 t)
     (inner-returns-2 t)

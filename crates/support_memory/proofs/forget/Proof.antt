@@ -12,6 +12,9 @@ put-mark-requires c κs = search needs
 is-empty-requires : tie.Need-is-empty-requires
 is-empty-requires c κs = search needs
 
+counted-requires : tie.Need-counted-requires
+counted-requires c κs = search needs
+
 command-requires : tie.Need-command-requires
 command-requires c κs = search needs
 
@@ -36,6 +39,7 @@ forget-spec =
     (tie.spec
     put-mark-requires
     is-empty-requires
+    counted-requires
     command-requires
     same-length
     returns
