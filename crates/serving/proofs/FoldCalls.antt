@@ -6,7 +6,7 @@ use mathlib.Core.List.{List, _∷_}
 use mathlib.Core.Option.{Option, none as nothing, some}
 use native.Mathlib.Omega.{arith}
 use borrow.Author.Tests.{le-leb}
-use lib.ListN.{length, replicate}
+use lib.ListN.{length, take, replicate}
 use Rattle.definitions.specs.Limits.{workLimit}
 use Rattle.definitions.specs.Usage.{memory, Nodes, allNodes}
 use Rattle.definitions.specs.Stream.{writeTop, listOf}
@@ -16,6 +16,7 @@ use Rattle.definitions.specs.Calls.{given, withTable, allTypesIn, checked, refu
 use Rattle.definitions.proofs.Written.{Bytes}
 use Rattle.definitions.proofs.ReadsBack.{list-storable}
 use Rattle.stream.specs.Found.{allBound, told}
+use Rattle.stream.specs.declared.Found.{Found}
 use Rattle.stream.specs.declared.Found.the-variants.{Stream}
 use Rattle.place_states.specs.declared.Outcome.{Outcome}
 use Rattle.answers.specs.Answers.{answerOf}
@@ -25,8 +26,13 @@ use Rattle.folding.specs.Folding.{Foldable, FoldReady, AllFolded}
 use Rattle.answers.specs.declared.Answer.{Answer}
 use Rattle.inputs.specs.declared.Inputs.{Inputs}
 use Rattle.serving.specs.Loaded.{ListGiven}
+use Rattle.serving.proofs.Lent.{area-lent}
 use Rattle.inputs.proofs.Types.{all-types-in}
 use Rattle.inputs.proofs.Accepting.{one-body, one-refused, OneGoing, one-goes-on}
+
+-- what is told of a list
+abbrev pub toldList : List ℕ → Found
+toldList bs = told allNodes allBound (listOf bs)
 
 abbrev folded : Setting → Nodes → Result (List ℕ)
 folded st ns = under (λ u. writeTop (memory u)) (fold st ns)
@@ -43,7 +49,7 @@ module _ (table : List ℕ) (work : ℕ) (list : List ℕ) where
   unfolding foldCall
   call-is output n e = ap (written output n) (ap (withTable work table) (fun-ext (by-bound (listOf list))) ∙ e)
 
-  module _ {places : List ℕ} {t : Inputs} (met : Met table work (told allNodes allBound (listOf list)) (Stream 0 0) places t) where
+  module _ {places : List ℕ} {t : Inputs} (met : Met table work (toldList list) (Stream 0 0) places t) where
     pub fold-refused : (output : List ℕ) (n : ℕ) {a : Answer} {report : List ℕ} → (t .refusal ≡ 0 → ⊥)
         → (answerOf a ≡ refusal (t .refusal)) × (report ≡ replicate n 0) → Gives (foldCall table work list output n) a output report
     fold-refused output n not-0 told =
@@ -69,8 +75,9 @@ module _ (table : List ℕ) (work : ℕ) (list : List ℕ) where
             few = omega (arith, going .first-nodes, met .good is-0 .few);
           }
 
-      pub fold-ready : {bs : List ℕ} → length bs ≡ workLimit → FoldReady table places list bs
-      fold-ready area = record { setting = setting; listed = going .first; foldable = foldable; area = area }
+      pub fold-ready : {k : ℕ} → k ≡ workLimit → (lent : List ℕ) → length lent ≡ work → FoldReady table places list (take k lent)
+      fold-ready asked lent same =
+          record { setting = setting; listed = going .first; foldable = foldable; area = area-lent asked lent same (met .good is-0 .enough) }
 
       pub fold-given : (output rep : List ℕ) {a : Answer} {output′ rep′ : List ℕ} → ListGiven table places list output rep a output′ rep′
           → Gives (foldCall table work list output (length rep)) a output′ rep′

@@ -1,4 +1,5 @@
 pub mod Memories
+pub mod Lent
 pub mod Loads
 pub mod Sounding
 pub mod Supporting

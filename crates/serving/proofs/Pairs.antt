@@ -7,7 +7,6 @@ use mathlib.Core.List.{List, [], _∷_, append-nil}
 use native.Mathlib.Omega.{arith}
 use borrow.Author.Tests.{le-leb}
 use lib.ListN.{length, take}
-use lib.Seq.{length-take-le}
 use Rattle.definitions.specs.Limits.{nodeLimit, workLimit}
 use Rattle.definitions.specs.Usage.{Usage, nodes}
 use Rattle.definitions.specs.Stream.{writeNode}
@@ -31,6 +30,7 @@ use Rattle.inputs.proofs.Types.{types-in}
 use Rattle.inputs.proofs.Lending.{ready-two, near-two}
 use Rattle.answers.proofs.Reaching.{FewIn, reached}
 use Rattle.serving.specs.Loaded.{Usable, Pair, PairReady, PairGiven}
+use Rattle.serving.proofs.Lent.{area-lent}
 
 pub usable : (t : Table) {bs : List ℕ} (c : ℕ) {u : Usage} → bs ≡ c ∷ writeNode u → Writable u → typeBound u ≤ length t → Usable t bs u
 usable t c {u} e fits known = record {
@@ -39,13 +39,13 @@ usable t c {u} e fits known = record {
 }
 
 pub pair-ready : {table places : List ℕ} {size : ℕ} {x y : Found} {na nb : ℕ} (good : Good table size x y places na nb) {first second : List ℕ} → Pair (good .layouts) first second na nb
-    → {work : List ℕ} → length work ≡ workLimit → PairReady table places first na second nb work
-pair-ready good pair area = record {
+    → {k : ℕ} → k ≡ workLimit → (work : List ℕ) → length work ≡ size → PairReady table places first na second nb (take k work)
+pair-ready good pair asked work same = record {
   setting = record { table = good .layouts };
   known = record { read = good .is; placed = good .placed };
   pair = pair;
   few = good .few;
-  area = area;
+  area = area-lent asked work same (good .enough);
 }
 
 -- what placing and merging answer is made of few nodes
@@ -57,10 +57,6 @@ placing-few offset st a b n few u w p e = place-few st a offset b e few
 pub merging-few : (st : Setting) (a b : Usage) (n : ℕ) → nodes a + nodes b ≤ n → FewIn n (merging st a b)
 unfolding merging
 merging-few st a b n few u w p e = mergeMem-few st a b e few
-
--- the part of a work area that is lent
-pub area-lent : (work : List ℕ) {n : ℕ} → length work ≡ n → workLimit ≤ n → length (take workLimit work) ≡ workLimit
-area-lent work e enough = length-take-le workLimit work (omega arith)
 
 module _ {table places first : List ℕ} {na : ℕ} {second : List ℕ} {nb : ℕ} {work : List ℕ} (ready : PairReady table places first na second nb work) where
   pub both : Both first na second nb work

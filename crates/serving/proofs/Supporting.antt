@@ -9,7 +9,7 @@ use mathlib.Core.Option.{none as nothing}
 use native.Mathlib.Omega.{arith}
 use borrow.Author.Tests.{lt-ltb, le-ltb, le-leb, lt-leb}
 use lib.Dec.{ltb, leb}
-use lib.ListN.{length}
+use lib.ListN.{length, take}
 use Rattle.definitions.specs.If.{if_then_else_}
 use Rattle.definitions.specs.Limits.{nodeLimit, workLimit}
 use Rattle.definitions.specs.Usage.{nodes}
@@ -25,6 +25,7 @@ use Rattle.support.specs.Answers.{Supports}
 use Rattle.inputs.proofs.Types.{types-in}
 use Rattle.serving.specs.Loaded.{MemoryReady, MemorySupported}
 use Rattle.serving.proofs.Memories.{Memory}
+use Rattle.serving.proofs.Lent.{area-lent}
 use Rattle.inputs.proofs.Tables.{Begun}
 use Rattle.inputs.proofs.Refusals.{short-work, bad-table, good-table}
 
@@ -91,8 +92,8 @@ module _ {table places : List ℕ} {work k : ℕ} (t : Begun table work places k
 
       -- the usage that is loaded
 
-      pub memory-ready : n ≤ nodeLimit → {bs : List ℕ} → length bs ≡ workLimit → MemoryReady table places ty s n bs
-      memory-ready few area = record {
+      pub memory-ready : n ≤ nodeLimit → {l : ℕ} → l ≡ workLimit → (lent : List ℕ) → length lent ≡ work → MemoryReady table places ty s n (take l lent)
+      memory-ready few bytes lent same = record {
         setting = setting;
         known = known;
         below = omega (arith, t .counted);
@@ -100,7 +101,7 @@ module _ {table places : List ℕ} {work k : ℕ} (t : Begun table work places k
         reads = m .reads;
         many = omega (arith, m .counted);
         few = few;
-        area = area;
+        area = area-lent bytes lent same (t .enough);
       }
 
       pub supported : {r : Bool} → MemorySupported table places ty offset s r → r ≡ supports setting ty offset (m .usage)

@@ -1,6 +1,7 @@
 // The calls over places that are lent for the table's records: refusals in their order, then the answer.
 ghost use mathlib.Core.Path.{_≡_};
 ghost use lib.ListN.{length};
+ghost use Rattle.definitions.specs.Limits.{workLimit};
 ghost use Rattle.definitions.specs.Calls.{soundCall, supportsCall, placeCall, mergeCall, foldCall};
 ghost use Rattle.layout.specs.Places.{Room};
 ghost use Rattle.answers.specs.Answers.{answerOf};
@@ -34,6 +35,13 @@ use stream::Found;
 const OPAQUE: u8 = 0x08;
 
 const MEMORY: u8 = 0x0A;
+
+// The bytes of a work area that are lent on. A function gives their number, so that a proof has it as a result and does not count it out.
+fn area() -> usize
+    ensures { λ r. ⌜ r ≡ workLimit ⌝ }
+{
+    WORK
+}
 
 // Is the usage of a Memory stream sound? It is loaded into the work area, whose contents do not matter.
 pub fn sound(table: &[u8], work: &mut [u8], places: &mut [u32], s: &[u8]) -> Answer
@@ -111,7 +119,7 @@ pub fn supports(
     if NODES < nodes {
         return refusal(MANY_NODES);
     }
-    said(supports_loaded(table, places, ty, offset, s, nodes, &mut work[0..WORK]))
+    said(supports_loaded(table, places, ty, offset, s, nodes, &mut work[..area()]))
 }
 
 // The usages of two Memories are loaded, and the second is put into the first at an offset.
@@ -163,7 +171,7 @@ pub fn place(
         offset,
         second,
         t.second,
-        &mut work[0..WORK],
+        &mut work[..area()],
         output,
         rep,
     )
@@ -224,7 +232,7 @@ pub fn merge(
         t.first,
         second,
         t.second,
-        &mut work[0..WORK],
+        &mut work[..area()],
         output,
         rep,
     )
@@ -264,5 +272,5 @@ pub fn fold(
     if t.refusal != 0 {
         return refuse(t.refusal, rep);
     }
-    fold_loaded(table, places, list, &mut work[0..WORK], output, rep)
+    fold_loaded(table, places, list, &mut work[..area()], output, rep)
 }

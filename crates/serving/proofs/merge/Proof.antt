@@ -2,12 +2,12 @@
 -- of other tops the first stays.
 -- Assumes nothing.
 use mathlib.Core.Path.{_≡_, _∙_}
-use native.Mathlib.Omega.{arith}
 use borrow.Author.Needs.{needs}
 use lib.ListN.{length, getD}
 use Rattle.definitions.proofs.Written.{Bytes}
 use Rattle.inputs.specs.Inputs.{Good, Met}
-use Rattle.serving.proofs.Pairs.{pair-ready, area-lent}
+use Rattle.serving.proofs.Pairs.{pair-ready}
+use Rattle.serving.proofs.Lent.{area-within, area-counted, met-lent}
 use Rattle.serving.proofs.Merging.{toldTop, merge-refused, first-some, second-some, opaque-first, merge-opaque, merge-unlike, ReadMerged, merge-alike, merge-gives}
 use Rattle.serving.proofs.merge.Statement.{statement}
 use Rattle.serving.proofs.merge.Tie as tie
@@ -19,10 +19,10 @@ work-lent c = c .before .before .before .before .before .top2 .kept .1 .0 ∙ c 
 -- what acceptance tells of the two streams
 
 met : (c : tie.After-accept) → (let a = c .before .before .before .before .before .before .before .before .before .before .before .before .before .before .before .before .before .before .args in Met (a .table .now) (length (a .work .now)) (toldTop (a .first .now)) (toldTop (a .second .now)) (c .accept .last .1 .1 .0) (c .accept .result))
-met c = rw (c .before .before .before .before .before .before .before .before .before .top .ensures, c .before .before .before .before .before .top2 .ensures, work-lent c) at (c .accept .ensures)
+met c = met-lent (c .before .before .before .before .before .before .before .before .before .top .ensures) (c .before .before .before .before .before .top2 .ensures) (work-lent c) (c .accept .ensures)
 
 good : (c : tie.Else1) → (let a = c .before .before .before .before .before .before .before .before .before .before .before .before .before .before .before .before .before .before .before .before .before .before .args in let t = c .before .before .before .before .accept in Good (a .table .now) (length (a .work .now)) (toldTop (a .first .now)) (toldTop (a .second .now)) (t .last .1 .1 .0) (t .result .first) (t .result .second))
-good c = met (c .before .before .before .before) .good (omega (arith, c .if1 .left))
+good c = met (c .before .before .before .before) .good (c .if1 .left)
 
 first-bytes : (c : tie.Else1) → Bytes (c .before .before .before .before .before .before .before .before .before .before .before .before .before .before .before .before .before .before .before .before .before .before .args .first .now)
 first-bytes c k = c .before .before .before .before .before .before .before .before .before .before .before .before .before .before .before .before .before .before .shared-slice-known2 .given k .fits
@@ -34,7 +34,7 @@ merged : (c : tie.Else3) → (let e = c .before .before .before .before in let a
 merged c =
     let e = c .before .before .before .before in
     let a = e .before .before .before .before .before .before .before .before .before .before .before .before .before .before .before .before .before .before .before .before .before .before .args in
-    merge-alike (a .table .now) (length (a .work .now)) (a .first .now) (a .second .now) (good e) (first-bytes e) (second-bytes e) (c .before .before .if2 .left) (omega (arith, c .if3 .left))
+    merge-alike (a .table .now) (length (a .work .now)) (a .first .now) (a .second .now) (good e) (first-bytes e) (second-bytes e) (c .before .before .if2 .left) (c .if3 .left)
 
 top-requires : tie.Need-top-requires
 top-requires c κs = search needs
@@ -60,7 +60,7 @@ same-length-3 c = c .before .before .refuse .kept .1 .0
 returns : tie.Need-returns
 returns c =
     let a = c .before .before .before .before .before .before .before .before .before .before .before .before .before .before .before .before .before .before .before .before .before .before .before .before .before .before .args in
-    merge-refused (a .table .now) (length (a .work .now)) (a .first .now) (a .second .now) (met (c .before .before .before .before .before .before .before .before)) (omega (arith, c .before .before .before .before .if1 .taken)) (a .output .now) (length (a .rep .now)) (c .before .before .refuse .ensures)
+    merge-refused (a .table .now) (length (a .work .now)) (a .first .now) (a .second .now) (met (c .before .before .before .before .before .before .before .before)) (c .before .before .before .before .if1 .taken) (a .output .now) (length (a .rep .now)) (c .before .before .refuse .ensures)
 
 shared-slice-read-top : tie.Need-shared-slice-read-top
 shared-slice-read-top c =
@@ -122,23 +122,23 @@ returns-3 c =
     let a = e .before .before .before .before .before .before .before .before .before .before .before .before .before .before .before .before .before .before .before .before .before .before .args in
     merge-unlike (a .table .now) (length (a .work .now)) (a .first .now) (a .second .now) (good e) (first-bytes e) (second-bytes e) (c .before .before .before .before .before .before .before .if3 .taken) (a .output .now) (length (a .rep .now)) (c .before .before .before .before .keep2 .ensures)
 
-sub-merge-loaded : tie.Need-sub-merge-loaded
-sub-merge-loaded c = search needs
+area-requires : tie.Need-area-requires
+area-requires c κs = search needs
 
-part-merge-loaded-start : tie.Need-part-merge-loaded-start
-part-merge-loaded-start c = search needs
+slice-relend-prefix-merge-loaded : tie.Need-slice-relend-prefix-merge-loaded
+slice-relend-prefix-merge-loaded c = area-within (c .area .ensures) (c .before .before .before .before .before .before .before .before .before .before .before .before .before .before .before .top2 .last .1 .0) (work-lent (c .before .before .before .before .before .before .before .before .before .before)) (good (c .before .before .before .before .before .before) .enough)
 
-part-merge-loaded-end : tie.Need-part-merge-loaded-end
-part-merge-loaded-end c = omega (arith, good (c .before .before .before .before .before) .enough, work-lent (c .before .before .before .before .before .before .before .before .before))
+slice-aggregate-merge-loaded : tie.Need-slice-aggregate-merge-loaded
+slice-aggregate-merge-loaded c = area-counted (c .before .area .ensures) (c .before .before .before .before .before .before .before .before .before .before .before .before .before .before .before .before .top2 .last .1 .0) (work-lent (c .before .before .before .before .before .before .before .before .before .before .before)) (good (c .before .before .before .before .before .before .before) .enough)
 
 merge-loaded-requires : tie.Need-merge-loaded-requires
-merge-loaded-requires c κs = let e = c .before .before .before .before .before .before .before .before in pair-ready (good e) (merged (c .before .before .before .before) .pair) (area-lent (c .before .before .before .before .before .before .before .before .before .before .before .before .before .before .before .before .before .top2 .last .1 .0) (work-lent (e .before .before .before .before)) (good e .enough))
+merge-loaded-requires c κs = let e = c .before .before .before .before .before .before .before .before .before in pair-ready (good e) (merged (c .before .before .before .before .before) .pair) (c .before .before .before .area .ensures) (c .before .before .before .before .before .before .before .before .before .before .before .before .before .before .before .before .before .before .top2 .last .1 .0) (work-lent (e .before .before .before .before))
 
 same-length-12 : tie.Need-same-length-12
-same-length-12 c = c .before .before .before .before .before .work3 .given .1 ∙ work-lent (c .before .before .before .before .before .before .before .before .before .before .before .before .before .before .before .before .before .before .before)
+same-length-12 c = c .before .before .before .before .before .work3 .given .1 ∙ work-lent (c .before .before .before .before .before .before .before .before .before .before .before .before .before .before .before .before .before .before .before .before)
 
 same-length-13 : tie.Need-same-length-13
-same-length-13 c = c .before .before .before .before .before .before .before .before .before .before .before .before .before .before .before .before .before .before .before .accept .kept .1 .1 .0
+same-length-13 c = c .before .before .before .before .before .before .before .before .before .before .before .before .before .before .before .before .before .before .before .before .accept .kept .1 .1 .0
 
 same-length-14 : tie.Need-same-length-14
 same-length-14 c = c .before .before .before .before .before .before .merge-loaded .kept .1 .1 .1 .1 .1 .1 .1 .1 .0
@@ -148,9 +148,9 @@ same-length-15 c = c .before .before .before .before .before .before .merge-load
 
 returns-4 : tie.Need-returns-4
 returns-4 c =
-    let e = c .before .before .before .before .before .before .before .before .before .before .before .before .before .before .before in
+    let e = c .before .before .before .before .before .before .before .before .before .before .before .before .before .before .before .before in
     let a = e .before .before .before .before .before .before .before .before .before .before .before .before .before .before .before .before .before .before .before .before .before .before .args in
-    merge-gives (a .table .now) (length (a .work .now)) (a .first .now) (a .second .now) (good e) (first-bytes e) (second-bytes e) (merged (c .before .before .before .before .before .before .before .before .before .before .before)) (a .output .now) (a .rep .now) (c .before .before .before .before .before .before .merge-loaded .ensures)
+    merge-gives (a .table .now) (length (a .work .now)) (a .first .now) (a .second .now) (good e) (first-bytes e) (second-bytes e) (merged (c .before .before .before .before .before .before .before .before .before .before .before .before)) (a .output .now) (a .rep .now) (c .before .before .before .before .before .before .merge-loaded .ensures)
 
 pub merge-spec : {M : Type 1} → statement M
 merge-spec =
@@ -179,9 +179,9 @@ merge-spec =
     same-length-10
     same-length-11
     returns-3
-    sub-merge-loaded
-    part-merge-loaded-start
-    part-merge-loaded-end
+    area-requires
+    slice-relend-prefix-merge-loaded
+    slice-aggregate-merge-loaded
     merge-loaded-requires
     same-length-12
     same-length-13

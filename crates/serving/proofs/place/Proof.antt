@@ -1,13 +1,13 @@
 -- `place` meets its contract: the refusals come in their order, and what is placed are the usages that were read.
 -- Assumes nothing.
 use mathlib.Core.Path.{_≡_, _∙_}
-use native.Mathlib.Omega.{arith}
 use borrow.Author.Needs.{needs}
 use lib.ListN.{length}
 use Rattle.definitions.proofs.Written.{Bytes}
 use Rattle.inputs.specs.Inputs.{Good, Met}
 use Rattle.serving.specs.Loaded.{Pair}
-use Rattle.serving.proofs.Pairs.{pair-ready, area-lent}
+use Rattle.serving.proofs.Pairs.{pair-ready}
+use Rattle.serving.proofs.Lent.{area-within, area-counted, met-lent}
 use Rattle.serving.proofs.Placing.{toldMemory, place-refused, place-pair, place-gives}
 use Rattle.serving.proofs.place.Statement.{statement}
 use Rattle.serving.proofs.place.Tie as tie
@@ -19,10 +19,10 @@ work-lent c = c .before .before .before .before .before .memory2 .kept .1 .0 ∙
 -- what acceptance tells of the two streams
 
 met : (c : tie.After-accept) → (let a = c .before .before .before .before .before .before .before .before .before .before .before .before .before .before .before .before .before .before .args in Met (a .table .now) (length (a .work .now)) (toldMemory (a .first .now)) (toldMemory (a .second .now)) (c .accept .last .1 .1 .0) (c .accept .result))
-met c = rw (c .before .before .before .before .before .before .before .before .before .memory .ensures, c .before .before .before .before .before .memory2 .ensures, work-lent c) at (c .accept .ensures)
+met c = met-lent (c .before .before .before .before .before .before .before .before .before .memory .ensures) (c .before .before .before .before .before .memory2 .ensures) (work-lent c) (c .accept .ensures)
 
 good : (c : tie.Else1) → (let a = c .before .before .before .before .before .before .before .before .before .before .before .before .before .before .before .before .before .before .before .before .before .before .args in let t = c .before .before .before .before .accept in Good (a .table .now) (length (a .work .now)) (toldMemory (a .first .now)) (toldMemory (a .second .now)) (t .last .1 .1 .0) (t .result .first) (t .result .second))
-good c = met (c .before .before .before .before) .good (omega (arith, c .if1 .left))
+good c = met (c .before .before .before .before) .good (c .if1 .left)
 
 first-bytes : (c : tie.Else1) → Bytes (c .before .before .before .before .before .before .before .before .before .before .before .before .before .before .before .before .before .before .before .before .before .before .args .first .now)
 first-bytes c k = c .before .before .before .before .before .before .before .before .before .before .before .before .before .before .before .before .before .before .shared-slice-known2 .given k .fits
@@ -57,25 +57,25 @@ same-length-3 c = c .before .before .refuse .kept .1 .0
 returns : tie.Need-returns
 returns c =
     let a = c .before .before .before .before .before .before .before .before .before .before .before .before .before .before .before .before .before .before .before .before .before .before .before .before .before .before .args in
-    place-refused (a .table .now) (length (a .work .now)) (a .first .now) (a .offset) (a .second .now) (met (c .before .before .before .before .before .before .before .before)) (omega (arith, c .before .before .before .before .if1 .taken)) (a .output .now) (length (a .rep .now)) (c .before .before .refuse .ensures)
+    place-refused (a .table .now) (length (a .work .now)) (a .first .now) (a .offset) (a .second .now) (met (c .before .before .before .before .before .before .before .before)) (c .before .before .before .before .if1 .taken) (a .output .now) (length (a .rep .now)) (c .before .before .refuse .ensures)
 
-sub-place-loaded : tie.Need-sub-place-loaded
-sub-place-loaded c = search needs
+area-requires : tie.Need-area-requires
+area-requires c κs = search needs
 
-part-place-loaded-start : tie.Need-part-place-loaded-start
-part-place-loaded-start c = search needs
+slice-relend-prefix-place-loaded : tie.Need-slice-relend-prefix-place-loaded
+slice-relend-prefix-place-loaded c = area-within (c .area .ensures) (c .before .before .before .before .before .before .before .before .before .before .before .memory2 .last .1 .0) (work-lent (c .before .before .before .before .before .before)) (good (c .before .before) .enough)
 
-part-place-loaded-end : tie.Need-part-place-loaded-end
-part-place-loaded-end c = omega (arith, good (c .before) .enough, work-lent (c .before .before .before .before .before))
+slice-aggregate-place-loaded : tie.Need-slice-aggregate-place-loaded
+slice-aggregate-place-loaded c = area-counted (c .before .area .ensures) (c .before .before .before .before .before .before .before .before .before .before .before .before .memory2 .last .1 .0) (work-lent (c .before .before .before .before .before .before .before)) (good (c .before .before .before) .enough)
 
 place-loaded-requires : tie.Need-place-loaded-requires
-place-loaded-requires c κs = let e = c .before .before .before .before in pair-ready (good e) (pair e) (area-lent (c .before .before .before .before .before .before .before .before .before .before .before .before .before .memory2 .last .1 .0) (work-lent (e .before .before .before .before)) (good e .enough))
+place-loaded-requires c κs = let e = c .before .before .before .before .before in pair-ready (good e) (pair e) (c .before .before .before .area .ensures) (c .before .before .before .before .before .before .before .before .before .before .before .before .before .before .memory2 .last .1 .0) (work-lent (e .before .before .before .before))
 
 same-length-4 : tie.Need-same-length-4
-same-length-4 c = c .before .before .before .before .before .work3 .given .1 ∙ work-lent (c .before .before .before .before .before .before .before .before .before .before .before .before .before .before .before)
+same-length-4 c = c .before .before .before .before .before .work3 .given .1 ∙ work-lent (c .before .before .before .before .before .before .before .before .before .before .before .before .before .before .before .before)
 
 same-length-5 : tie.Need-same-length-5
-same-length-5 c = c .before .before .before .before .before .before .before .before .before .before .before .before .before .before .before .accept .kept .1 .1 .0
+same-length-5 c = c .before .before .before .before .before .before .before .before .before .before .before .before .before .before .before .before .accept .kept .1 .1 .0
 
 same-length-6 : tie.Need-same-length-6
 same-length-6 c = c .before .before .before .before .before .before .place-loaded .kept .1 .1 .1 .1 .1 .1 .1 .1 .0
@@ -85,7 +85,7 @@ same-length-7 c = c .before .before .before .before .before .before .place-loade
 
 returns-2 : tie.Need-returns-2
 returns-2 c =
-    let e = c .before .before .before .before .before .before .before .before .before .before .before in
+    let e = c .before .before .before .before .before .before .before .before .before .before .before .before in
     let a = e .before .before .before .before .before .before .before .before .before .before .before .before .before .before .before .before .before .before .before .before .before .before .args in
     place-gives (a .table .now) (length (a .work .now)) (a .first .now) (a .offset) (a .second .now) (good e) (first-bytes e) (second-bytes e) (a .output .now) (a .rep .now) (c .before .before .before .before .before .before .place-loaded .ensures)
 
@@ -101,9 +101,9 @@ place-spec =
     same-length-2
     same-length-3
     returns
-    sub-place-loaded
-    part-place-loaded-start
-    part-place-loaded-end
+    area-requires
+    slice-relend-prefix-place-loaded
+    slice-aggregate-place-loaded
     place-loaded-requires
     same-length-4
     same-length-5

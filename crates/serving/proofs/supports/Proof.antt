@@ -1,13 +1,12 @@
 -- `supports` meets its contract: the refusals come in their order, and what is asked about is the usage that was read.
 -- Assumes nothing.
 use mathlib.Core.Path.{_∙_}
-use native.Mathlib.Omega.{arith}
 use borrow.Author.Needs.{needs}
 use borrow.Author.Tests.{not-true, not-false}
 use lib.ListN.{length}
 use Rattle.serving.proofs.Memories.{Memory, found, lost}
 use Rattle.inputs.proofs.Tables.{Begun, begin}
-use Rattle.serving.proofs.Pairs.{area-lent}
+use Rattle.serving.proofs.Lent.{area-within, area-counted}
 use Rattle.serving.proofs.Supporting.{supports-short, supports-tableless, supports-broken, in-table, supports-typeless, supports-unknown, supports-abstract, supports-many, supports-said, memory-ready, supported}
 use Rattle.serving.proofs.supports.Statement.{statement}
 use Rattle.serving.proofs.supports.Tie as tie
@@ -126,40 +125,40 @@ returns-7 c =
     let asked = c .before .before .before .is-concrete in
     rw (supports-many (begun (c .before .before .before .before .before .before .before .before .before .before .before .before .before .before .before)) (a .ty) (a .offset) (memory (c .before .before .before .before .before .before .before .before)) (c .before .before .before .before .before .before .if3 .left) (c .before .before .before .before .before .if4 .left) (asked .ensures) (not-false (asked .result) (c .before .before .if5 .left)) (c .before .if6 .taken)) (c .refusal7 .ensures)
 
-sub-supports-loaded : tie.Need-sub-supports-loaded
-sub-supports-loaded c = search needs
+area-requires : tie.Need-area-requires
+area-requires c κs = search needs
 
-part-supports-loaded-start : tie.Need-part-supports-loaded-start
-part-supports-loaded-start c = search needs
+slice-relend-prefix-supports-loaded : tie.Need-slice-relend-prefix-supports-loaded
+slice-relend-prefix-supports-loaded c = let read = c .before .before .before .before .before .before .before .before .before .before .before .before .before .before .memory in area-within (c .area .ensures) (read .last .1 .0) (read .kept .1 .0) (begun (c .before .before .before .before .before .before .before .before .before .before .before .before .before .before .before .before) .enough)
 
-part-supports-loaded-end : tie.Need-part-supports-loaded-end
-part-supports-loaded-end c = omega (arith, begun (c .before .before .before .before .before .before .before .before .before .before .before .before .before .before .before) .enough, c .before .before .before .before .before .before .before .before .before .before .before .before .before .memory .kept .1 .0)
+slice-aggregate-supports-loaded : tie.Need-slice-aggregate-supports-loaded
+slice-aggregate-supports-loaded c = let read = c .before .before .before .before .before .before .before .before .before .before .before .before .before .before .before .memory in area-counted (c .before .area .ensures) (read .last .1 .0) (read .kept .1 .0) (begun (c .before .before .before .before .before .before .before .before .before .before .before .before .before .before .before .before .before) .enough)
 
 supports-loaded-requires : tie.Need-supports-loaded-requires
 supports-loaded-requires c κs =
-    let a = c .before .before .before .before .before .before .before .before .before .before .before .before .before .before .before .before .before .before .before .before .before .before .before .before .before .before .before .args in
-    let t = begun (c .before .before .before .before .before .before .before .before .before .before .before .before .before .before .before .before) in
-    let read = c .before .before .before .before .before .before .before .before .before .before .before .before .before .before .memory in
-    memory-ready t (a .ty) (a .offset) (memory (c .before .before .before .before .before .before .before .before .before)) (c .before .before .before .before .before .before .before .if3 .left) (c .before .before .if6 .left) (area-lent (read .last .1 .0) (read .kept .1 .0) (t .enough))
+    let a = c .before .before .before .before .before .before .before .before .before .before .before .before .before .before .before .before .before .before .before .before .before .before .before .before .before .before .before .before .args in
+    let t = begun (c .before .before .before .before .before .before .before .before .before .before .before .before .before .before .before .before .before) in
+    let read = c .before .before .before .before .before .before .before .before .before .before .before .before .before .before .before .memory in
+    memory-ready t (a .ty) (a .offset) (memory (c .before .before .before .before .before .before .before .before .before .before)) (c .before .before .before .before .before .before .before .before .if3 .left) (c .before .before .before .if6 .left) (c .before .area .ensures) (read .last .1 .0) (read .kept .1 .0)
 
 said-requires : tie.Need-said-requires
 said-requires c κs = search needs
 
 same-length-12 : tie.Need-same-length-12
-same-length-12 c = c .before .before .work2 .given .1 ∙ c .before .before .before .before .before .before .before .before .before .before .before .before .before .before .before .before .before .before .memory .kept .1 .0
+same-length-12 c = c .before .before .work2 .given .1 ∙ c .before .before .before .before .before .before .before .before .before .before .before .before .before .before .before .before .before .before .before .memory .kept .1 .0
 
 same-length-13 : tie.Need-same-length-13
-same-length-13 c = c .before .before .before .before .before .before .before .before .before .before .before .before .before .before .before .before .before .before .before .before .before .before .before .before .accept .kept .1 .0
+same-length-13 c = c .before .before .before .before .before .before .before .before .before .before .before .before .before .before .before .before .before .before .before .before .before .before .before .before .before .accept .kept .1 .0
 
 returns-8 : tie.Need-returns-8
 returns-8 c =
-    let a = c .before .before .before .before .before .before .before .before .before .before .before .before .before .before .before .before .before .before .before .before .before .before .before .before .before .before .before .before .before .before .before .args in
-    let t = begun (c .before .before .before .before .before .before .before .before .before .before .before .before .before .before .before .before .before .before .before .before) in
-    let m = memory (c .before .before .before .before .before .before .before .before .before .before .before .before .before) in
-    let asked = c .before .before .before .before .before .before .before .before .is-concrete in
-    let below = c .before .before .before .before .before .before .before .before .before .before .before .if3 .left in
+    let a = c .before .before .before .before .before .before .before .before .before .before .before .before .before .before .before .before .before .before .before .before .before .before .before .before .before .before .before .before .before .before .before .before .args in
+    let t = begun (c .before .before .before .before .before .before .before .before .before .before .before .before .before .before .before .before .before .before .before .before .before) in
+    let m = memory (c .before .before .before .before .before .before .before .before .before .before .before .before .before .before) in
+    let asked = c .before .before .before .before .before .before .before .before .before .is-concrete in
+    let below = c .before .before .before .before .before .before .before .before .before .before .before .before .if3 .left in
     rw (
-      supports-said t (a .ty) (a .offset) m below (c .before .before .before .before .before .before .before .before .before .before .if4 .left) (asked .ensures) (not-false (asked .result) (c .before .before .before .before .before .before .before .if5 .left)) (c .before .before .before .before .before .before .if6 .left),
+      supports-said t (a .ty) (a .offset) m below (c .before .before .before .before .before .before .before .before .before .before .before .if4 .left) (asked .ensures) (not-false (asked .result) (c .before .before .before .before .before .before .before .before .if5 .left)) (c .before .before .before .before .before .before .before .if6 .left),
       ← supported t (a .ty) (a .offset) m below (c .before .before .before .supports-loaded .ensures),
     )
     (c .said .ensures)
@@ -198,9 +197,9 @@ supports-spec =
     same-length-10
     same-length-11
     returns-7
-    sub-supports-loaded
-    part-supports-loaded-start
-    part-supports-loaded-end
+    area-requires
+    slice-relend-prefix-supports-loaded
+    slice-aggregate-supports-loaded
     supports-loaded-requires
     said-requires
     same-length-12
