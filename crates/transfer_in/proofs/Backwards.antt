@@ -46,7 +46,7 @@ parted (map z fs) es s p r =
     let e : suc p + nodesIn fs ≡ p + suc (nodesIn fs) = omega arith in
     let P = apart-split fs es s (suc p) r in
     (P .0, subst (Apart es s) e (P .1))
-parted (array z n x) es s p r = let e : suc p + nodes x ≡ p + suc (nodes x) = omega arith in (r .0, subst (Apart es s) e (r .1))
+parted (array z n x) es s p r = let e : suc p + nodes x ≡ p + suc (nodes x) = omega arith in (r .0, subst (Apart es s) e (r .2))
 
 module _ {s₀ s : List ℕ} {q n i p : ℕ} (L : Linking s₀ s q n i) (last : suc p ≡ i) (le : q ≤ p) (fits : i ≤ q + n) where
   -- the node at record p
@@ -78,6 +78,7 @@ module _ {s₀ s : List ℕ} {q n i p : ℕ} (L : Linking s₀ s q n i) (last : 
         let kept = T .kept v (N .offset) (R .ripe) in
         rw (N .first) (
           T .linked v (N .offset) (R .ripe),
+          T .next v (N .offset) (R .ripe),
           apart-move (N .others) s s′ (p + nodes v) (λ j a b. kept j (λ c d. omega arith)) (R .left),
         );
     kept = λ j lt.

@@ -40,18 +40,20 @@ mutual
 pub apart-move : (es : Entries) (s s′ : List ℕ) (q : ℕ) → ((j : ℕ) → q ≤ j → j < q + nodesIn es → cell s′ j ≡ cell s j) → Apart es s q → Apart es s′ q
 unfolding Apart
 apart-move none s s′ q h r = tt
-apart-move (entry o u es) s s′ q h r = (
-  linked-with u s s′ q o (ap (withNext 0) (h q (omega arith) (omega (arith, some-node u)))) (λ j a b. h j (omega arith) (omega arith)) (r .0),
-  apart-move es s s′ (q + nodes u) (λ j a b. h j (omega arith) (omega arith)) (r .1),
-)
+apart-move (entry o u es) s s′ q h r =
+    let here : cell s′ q ≡ cell s q = h q (omega arith) (omega (arith, some-node u)) in (
+      linked-with u s s′ q o (ap (withNext 0) here) (λ j a b. h j (omega arith) (omega arith)) (r .0),
+      ap (λ (x : Cell). x .next) here ∙ r .1,
+      apart-move es s s′ (q + nodes u) (λ j a b. h j (omega arith) (omega arith)) (r .2),
+    )
 
 pub apart-split : (x y : Entries) (s : List ℕ) (q : ℕ) → Apart (x <+> y) s q → Apart x s q × Apart y s (q + nodesIn x)
 unfolding Apart
 apart-split none y s q r = let e : q ≡ q + 0 = omega arith in (tt, rw e at r)
 apart-split (entry o u x) y s q r =
-    let rest = apart-split x y s (q + nodes u) (r .1) in
+    let rest = apart-split x y s (q + nodes u) (r .2) in
     let e : q + nodes u + nodesIn x ≡ q + (nodes u + nodesIn x) = omega arith in
-    ((r .0, rest .0), rw e at (rest .1))
+    ((r .0, r .1, rest .0), rw e at (rest .1))
 
 -- Roots
 

@@ -67,6 +67,7 @@ module _ (s : List ℕ) (q : ℕ) {c : ℕ} (command : c ≡ commandIn s q) wher
           let same : u ≡ map (M .size) none = M .same ∙ ap (map (M .size)) empty in
           let root : Bare (map (M .size) none) s q o = subst (λ (x : Usage). Bare x s q o) same (R .root) in
           subst (λ (x : Usage). Linked x s q o) (sym same) (ap (withNext 0) root, tt);
+      next = λ u o R. ap (λ (x : Cell). x .next) (R .root);
       kept = λ u o R j out. refl;
     }
 
@@ -75,16 +76,19 @@ module _ (s : List ℕ) (q : ℕ) {c : ℕ} (command : c ≡ commandIn s q) wher
       set-root : Set s₁ s₄ q (withCount (e - q) (withArgument 0 (withChild (q + 1) (cell s₁ q))))
       set-root = set-again s₁ s₃ s₄ q (withArgument 0 (withChild (q + 1) (cell s₁ q))) (withCount (e - q)) (set-again s₁ s₂ s₃ q (withChild (q + 1) (cell s₁ q)) (withArgument 0) A B) C
 
+      root-is : (u : Usage) (o : ℕ) (M : MapAt s q k u o) → cell s₄ q ≡ full 3 0 (q + 1) (e - q) (M .size) 0 o
+      root-is u o M =
+          let same : cell s₁ q ≡ cell s q = T .kept (M .entries) (M .below) (M .many) q (λ a b. omega arith) in
+          set-root .here ∙ ap (λ (x : Cell). withCount (e - q) (withArgument 0 (withChild (q + 1) x))) (same ∙ M .root)
+
       map-linked : (u : Usage) (o : ℕ) → MapAt s q k u o → Linked u s₄ q o
       unfolding Linked
       map-linked u o M =
           let es : Entries = M .entries in
           let S = set-root in
-          let same : cell s₁ q ≡ cell s q = T .kept es (M .below) (M .many) q (λ a b. omega arith) in
           let first : q + 1 ≡ firstOf es (suc q) = sym (first-some es (suc q) (omega (arith, M .many)) ∙ suc-is q) in
           let total : e - q ≡ suc (nodesIn es) = omega (arith, T .behind es (M .below) (M .many)) in
-          let root : withNext 0 (cell s₄ q) ≡ full 3 0 (q + 1) (e - q) (M .size) 0 o =
-          ap (withNext 0) (S .here ∙ ap (λ (x : Cell). withCount (e - q) (withArgument 0 (withChild (q + 1) x))) (same ∙ M .root)) in
+          let root : withNext 0 (cell s₄ q) ≡ full 3 0 (q + 1) (e - q) (M .size) 0 o = ap (withNext 0) (root-is u o M) in
           let below : EntriesLinked es s₄ (q + 1) = entries-move es s₁ s₄ (q + 1) (λ j a b. S .others j (omega arith)) (T .linked es (M .below) (M .many)) in
           subst (λ (x : Usage). Linked x s₄ q o) (sym (M .same))
           (root ∙ cc, subst (EntriesLinked es s₄) (sym (suc-is q)) below)
@@ -92,6 +96,7 @@ module _ (s : List ℕ) (q : ℕ) {c : ℕ} (command : c ≡ commandIn s q) wher
       pub map-tied : Tied s q s₄
       map-tied = record {
         linked = λ u o R. map-linked u o (map-at u o R);
+        next = λ u o R. ap (λ (x : Cell). x .next) (root-is u o (map-at u o R));
         kept = λ u o R j out.
             let M = map-at u o R in
             let S = set-root in
@@ -134,6 +139,7 @@ module _ (s : List ℕ) (q : ℕ) {c : ℕ} (command : c ≡ commandIn s q) wher
                 let ahead : q + 1 ≡ suc q = sym (suc-is q) in
                 subst (λ (y : Usage). Linked y s₂ q o) (sym (X .0 .same))
                 (root ∙ cc, linked-with x s s₂ (suc q) 0 (ap (withNext 0) (S .others (suc q) (omega arith))) (λ j a b. S .others j (omega arith)) (X .1 .below));
+            next = λ u o R. ap (λ (x : Cell). x .next) (S .here ∙ ap (λ (y : Cell). withCount (1 + n) (withChild (q + 1) y)) (R .root));
             kept = λ u o R j out. S .others j (λ e. out (omega arith) (omega (arith, some-node u)));
           }
 
@@ -145,4 +151,4 @@ module _ (s : List ℕ) (q : ℕ) {c : ℕ} (command : c ≡ commandIn s q) wher
   leaf-linked (array z n x) o n₃ n₄ R = absurd (n₄ (command-of (array z n x) o (R .root)))
 
   pub leaf-tied : (c ≡ 3 → ⊥) → (c ≡ 4 → ⊥) → Tied s q s
-  leaf-tied n₃ n₄ = record { linked = λ u o R. leaf-linked u o n₃ n₄ R; kept = λ u o R j out. refl }
+  leaf-tied n₃ n₄ = record { linked = λ u o R. leaf-linked u o n₃ n₄ R; next = λ u o R. ap (λ (x : Cell). x .next) (R .root); kept = λ u o R j out. refl }

@@ -1,4 +1,5 @@
--- Entries are linked from the first to the last: each is linked to the one behind it, which stands as it did, and the last one to none.
+-- Entries are linked from the first to the last: each is linked to the one behind it, which stands as it did, and the last one is
+-- linked to none already.
 -- Assumes nothing.
 use Prim.Native.Nat.{ℕ, suc, _+_, _*_, _-_, _<_, _≤_}
 use mathlib.Core.Path.{_≡_, refl, ap, sym, _∙_}
@@ -30,6 +31,7 @@ pub record Tying (es : Entries) (s₀ s : List ℕ) (q p i : ℕ) : Type 0 where
   pub usage : Usage
   pub others : Entries
   pub here : Linked usage s p offset
+  pub next : nextIn s p ≡ 0
   pub behind : Apart others s (p + nodes usage)
   pub upto : q ≤ p
   pub ends : p + (nodes usage + nodesIn others) ≡ q + nodesIn es
@@ -44,7 +46,7 @@ module _ {es : Entries} {s₀ s : List ℕ} {q p i : ℕ} where
   unfolding Apart
   tying none stand upto ends many le joined kept = absurd (omega arith)
   tying (entry o u others) stand upto ends many le joined kept =
-      record { offset = o; usage = u; others = others; here = stand .0; behind = stand .1; upto = upto; ends = ends; many = omega arith; joined = joined; kept = kept }
+      record { offset = o; usage = u; others = others; here = stand .0; next = stand .1; behind = stand .2; upto = upto; ends = ends; many = omega arith; joined = joined; kept = kept }
 
 module _ {es : Entries} {s₀ s : List ℕ} {q p i : ℕ} {s′ : List ℕ} {v : ℕ} (H : Tying es s₀ s q p i) (S : Set s s′ p (withNext v (cell s p))) where
   -- the entry at p is linked to v, and whatever changes behind it, it stands
@@ -72,19 +74,15 @@ module _ {es : Entries} {s₀ s : List ℕ} {q p i : ℕ} {s′ : List ℕ} {v :
       H .joined s″ (λ j l. K j (omega arith) ∙ S .others j (omega arith)) (T .0, T .1 ∙ e ∙ sym (first-some (H .others) (p + nodes u) (omega (arith, H .many))), r))
       kept-tied)
 
-  tied-last : v ≡ 0 → count es ≤ i → EntriesLinked es s′ q × (p + nodes (H .usage) ≡ q + nodesIn es)
+module _ {es : Entries} {s₀ s : List ℕ} {q p i : ℕ} (H : Tying es s₀ s q p i) where
+  tied-last : count es ≤ i → EntriesLinked es s q × (p + nodes (H .usage) ≡ q + nodesIn es)
   unfolding Linked
-  tied-last e le =
+  tied-last le =
       let no-more : H .others ≡ none = no-entry (H .others) (omega (arith, H .many)) in
-      let T = tied-here s′ (λ j l. refl) in (
-        H .joined s′ (λ j l. S .others j (omega arith)) (rw no-more (T .0, T .1 ∙ e, tt)),
-        omega (arith, H .ends, ap nodesIn no-more),
-      )
+      (H .joined s (λ j l. refl) (rw no-more (H .here, H .next, tt)), omega (arith, H .ends, ap nodesIn no-more))
 
-  kept-last : count es ≤ i → KeptOutside q (nodesIn es) s₀ s′
-  kept-last le j out =
-      let no-more : H .others ≡ none = no-entry (H .others) (omega (arith, H .many)) in
-      kept-tied j (λ a b. out a (omega (arith, H .ends, ap nodesIn no-more)))
+  kept-last : KeptOutside q (nodesIn es) s₀ s
+  kept-last j out = H .kept j (λ a b. out a (omega (arith, H .ends)))
 
 -- whichever k entries stand there
 pub record Ties (s₀ s : List ℕ) (q k p i : ℕ) : Type 0 where
@@ -114,15 +112,15 @@ module _ {s₀ s : List ℕ} {q k p i : ℕ} (T : Ties s₀ s q k p i) where
     pub entry-more : {m : ℕ} → m ≡ countIn s p → i < k → p + m < 65536
     entry-more e lt = let H = this-entry in omega (arith, e ∙ count-is (H .usage) s p (H .offset) (H .here), H .ends, E .few, H .many, E .many, some-nodes (H .others))
 
-    pub tied : {s′ : List ℕ} {m : ℕ} → k ≤ i → m ≡ countIn s p → Set s s′ p (withNext 0 (cell s p)) → EntriesTied s₀ q k s′ (p + m)
-    tied {s′} {m} over e S =
+    pub tied : {m : ℕ} → k ≤ i → m ≡ countIn s p → EntriesTied s₀ q k s (p + m)
+    tied {m} over e =
         let ends : (es : Entries) → Apart es s₀ q → count es ≡ k → p + m ≡ q + nodesIn es = λ es A many.
         let H = T .of es A many in
-        omega (arith, e ∙ count-is (H .usage) s p (H .offset) (H .here), tied-last H S refl (omega arith) .1) in
+        omega (arith, e ∙ count-is (H .usage) s p (H .offset) (H .here), tied-last H (omega arith) .1) in
         record {
-          linked = λ es A many. tied-last (T .of es A many) S refl (omega arith) .0;
+          linked = λ es A many. tied-last (T .of es A many) (omega arith) .0;
           behind = ends;
-          kept = λ es A many. kept-last (T .of es A many) S (omega arith);
+          kept = λ es A many. kept-last (T .of es A many);
           some = omega (arith, ends (E .entries) (E .stand) (E .many), some-nodes (E .entries), E .many, E .some);
           few = omega (arith, ends (E .entries) (E .stand) (E .many), E .few);
         }

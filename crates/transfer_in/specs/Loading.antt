@@ -82,10 +82,10 @@ unfoldable mutual
   EntriesLinked none s q = Unit {0}
   EntriesLinked (entry o u es) s q = Linked u s q o × (nextIn s q ≡ firstOf es (q + nodes u)) × EntriesLinked es s (q + nodes u)
 
--- one behind the other, each linked for itself
+-- one behind the other, each linked for itself, and to none behind it
 unfoldable pub Apart : Entries → List ℕ → ℕ → Type 0
 Apart none s q = Unit {0}
-Apart (entry o u es) s q = Linked u s q o × Apart es s (q + nodes u)
+Apart (entry o u es) s q = Linked u s q o × (nextIn s q ≡ 0) × Apart es s (q + nodes u)
 
 -- Contracts
 
@@ -133,9 +133,10 @@ pub record RipeAt (s : List ℕ) (q : ℕ) : Type 0 where
   pub inside : (q + nodes usage) * 32 ≤ length s
   pub few : q + nodes usage ≤ 65536
 
--- it is linked
+-- it is linked, and to none behind it
 pub record Tied (s : List ℕ) (q : ℕ) (s′ : List ℕ) : Type 0 where
   pub linked : (u : Usage) (o : ℕ) → Ripe u s q o → Linked u s′ q o
+  pub next : (u : Usage) (o : ℕ) → Ripe u s q o → nextIn s′ q ≡ 0
   pub kept : (u : Usage) (o : ℕ) → Ripe u s q o → KeptOutside q (nodes u) s s′
 
 -- n nodes are loaded from record q on

@@ -75,7 +75,7 @@ fn load_nodes(s: &[u8], at: usize, n: usize, work: &mut [u8], q: usize) -> usize
     p
 }
 
-// The k entries that stand from record q on, at least one, are linked; the record behind them.
+// The k entries that stand from record q on, at least one, are linked, the last one to none already; the record behind them.
 fn link_entries(s: &mut [u8], q: usize, k: usize) -> usize
     requires { ⌜ EntriesOf (now s) q k ⌝ }
     ensures { λ r. ⌜ EntriesTied (now (s .entry)) q k (now (s .exit)) r ⌝ }
@@ -88,9 +88,7 @@ fn link_entries(s: &mut [u8], q: usize, k: usize) -> usize
         p = n;
         i += 1;
     }
-    let end = p + nodes(s, p);
-    put_next(s, p, 0);
-    end
+    p + nodes(s, p)
 }
 
 // What lies below record q, where all of that is linked for itself, and a map's argument is its count of entries, is linked to it.

@@ -1,4 +1,4 @@
--- `transfer_in::link_entries` meets its contract: each turn links one entry to the next, and the last one is linked to none.
+-- `transfer_in::link_entries` meets its contract: each turn links one entry to the next, and the last one is linked to none already.
 -- Assumes nothing.
 use Prim.Native.Nat.{_-_, _≤_}
 use mathlib.Core.Path.{_≡_, refl, _∙_}
@@ -43,16 +43,11 @@ loop-again c = (search (ties-more, needs), omega arith, c .before .before .put-n
 nodes-requires-2 : tie.Need-nodes-requires-2 Inv-loop μ-loop
 nodes-requires-2 c κs = search (entry-inside, needs)
 
-add-end : tie.Need-add-end Inv-loop μ-loop
-add-end c = let inv = c .before .before .before .loop .inv in omega (arith, entry-ends (inv .0) (c .before .before .before .before .before .pre) (inv .2) (c .nodes2 .ensures .0))
-
-put-next-requires-2 : tie.Need-put-next-requires-2 Inv-loop μ-loop
-put-next-requires-2 c κs =
-    let inv = c .before .before .before .before .loop .inv in
-    (omega (arith, entry-inside (inv .0) (c .before .before .before .before .before .before .pre) (inv .2)), omega arith)
+add-result : tie.Need-add-result Inv-loop μ-loop
+add-result c = let inv = c .before .before .before .loop .inv in omega (arith, entry-ends (inv .0) (c .before .before .before .before .before .pre) (inv .2) (c .nodes2 .ensures .0))
 
 same-length : tie.Need-same-length Inv-loop μ-loop
-same-length c = c .before .before .put-next2 .kept .0 ∙ c .before .before .before .before .before .before .before .loop .inv .2
+same-length c = c .before .before .before .loop .inv .2
 
 returns : tie.Need-returns Inv-loop μ-loop
 returns c = search (tied, needs)
@@ -71,7 +66,6 @@ link-entries-spec =
     loop-less
     loop-again
     nodes-requires-2
-    add-end
-    put-next-requires-2
+    add-result
     same-length
     returns)
