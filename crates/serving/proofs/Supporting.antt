@@ -9,7 +9,7 @@ use mathlib.Core.Option.{none as nothing}
 use native.Mathlib.Omega.{arith}
 use borrow.Author.Tests.{lt-ltb, le-ltb, le-leb, lt-leb}
 use lib.Dec.{ltb, leb}
-use lib.ListN.{length, take}
+use lib.ListN.{length}
 use Rattle.definitions.specs.If.{if_then_else_}
 use Rattle.definitions.specs.Limits.{nodeLimit, workLimit}
 use Rattle.definitions.specs.Usage.{nodes}
@@ -19,13 +19,11 @@ use Rattle.definitions.specs.Place.{done}
 use Rattle.definitions.specs.Support.{supports}
 use Rattle.definitions.specs.Calls.{refuseIf, refusal, said, supportsCall}
 use Rattle.layout.specs.Places.{Known, InTable, Says}
-use Rattle.transfer_in.specs.Loading.{Loadable, Loaded, itself}
+use Rattle.transfer_in.specs.Loading.{Loaded, itself}
 use Rattle.support.specs.Known.{Askable}
 use Rattle.support.specs.Answers.{Supports}
 use Rattle.inputs.proofs.Types.{types-in}
-use Rattle.serving.specs.Loaded.{MemoryReady, MemorySupported}
 use Rattle.serving.proofs.Memories.{Memory}
-use Rattle.serving.proofs.Lent.{area-lent}
 use Rattle.inputs.proofs.Tables.{Begun}
 use Rattle.inputs.proofs.Refusals.{short-work, bad-table, good-table}
 
@@ -90,51 +88,23 @@ module _ {table places : List ℕ} {work k : ℕ} (t : Begun table work places k
         unfolding if_then_else_
         supports-said e few = rw (asked, lt-ltb ty k below, le-leb b k within, concrete-is below says, e, le-ltb nodeLimit n few)
 
-      -- the usage that is loaded
+      -- the usage that is loaded stands in the work area, and is asked about there
 
-      pub memory-ready : n ≤ nodeLimit → {l : ℕ} → l ≡ workLimit → (lent : List ℕ) → length lent ≡ work → MemoryReady table places ty s n (take l lent)
-      memory-ready few bytes lent same = record {
-        setting = setting;
-        known = known;
-        below = omega (arith, t .counted);
-        usage = m .usage;
-        reads = m .reads;
-        many = omega (arith, m .counted);
-        few = few;
-        area = area-lent bytes lent same (t .enough);
-      }
+      module _ {area area′ : List ℕ} {end : ℕ} (loaded : Loaded s 1 area 1 area′ end) where
+        pub memory-askable : n ≤ nodeLimit → workLimit ≤ length area′ → Askable table places ty area′ 1
+        memory-askable few enough = record {
+          type = record { setting = setting; known = known; below = omega (arith, t .counted) };
+          usage = record {
+            usage = m .usage;
+            rank = itself;
+            lo = 1;
+            hi = 1 + nodes (m .usage);
+            stands = loaded .stands (m .usage) [] (m .reads);
+            few = omega (arith, m .counted);
+            within = omega arith;
+            numbered = omega arith;
+          };
+        }
 
-      pub supported : {r : Bool} → MemorySupported table places ty offset s r → r ≡ supports setting ty offset (m .usage)
-      supported says = says .is setting known (omega (arith, t .counted)) (m .usage) (m .reads)
-
--- it stands in the work area, and is asked about there
-module _ {table places : List ℕ} {ty : ℕ} {s : List ℕ} {n : ℕ} {work : List ℕ} (ready : MemoryReady table places ty s n work) where
-  pub memory-loadable : Loadable s 1 n work 1
-  memory-loadable = record {
-    usage = ready .usage;
-    rest = [];
-    reads = ready .reads;
-    many = ready .many;
-    some = omega arith;
-    inside = omega (arith, ready .few, ready .area);
-    few = omega (arith, ready .few);
-  }
-
-  module _ {work′ : List ℕ} {end : ℕ} (same : length work′ ≡ length work) (loaded : Loaded s 1 work 1 work′ end) where
-    pub memory-askable : Askable table places ty work′ 1
-    memory-askable = record {
-      type = record { setting = ready .setting; known = ready .known; below = ready .below };
-      usage = record {
-        usage = ready .usage;
-        rank = itself;
-        lo = 1;
-        hi = 1 + nodes (ready .usage);
-        stands = loaded .stands (ready .usage) [] (ready .reads);
-        few = omega (arith, ready .few, ready .many);
-        within = omega (arith, ready .area);
-        linkable = omega (arith, ready .area);
-      };
-    }
-
-    pub memory-supported : {offset : ℕ} {r : Bool} → Supports table places ty offset work′ 1 r → MemorySupported table places ty offset s r
-    memory-supported says = record { is = λ st known below u reads. says .is st known below u itself 1 (1 + nodes u) (loaded .stands u [] reads) }
+        pub memory-supported : {r : Bool} → Supports table places ty offset area′ 1 r → r ≡ supports setting ty offset (m .usage)
+        memory-supported says = says .is setting known (omega (arith, t .counted)) (m .usage) itself 1 (1 + nodes (m .usage)) (loaded .stands (m .usage) [] (m .reads))

@@ -2,14 +2,12 @@
 -- Assumes nothing.
 use Prim.Native.Nat.{ℕ, _+_, _<_, _≤_}
 use mathlib.Core.Path.{_≡_}
-use mathlib.Core.Bool.{Bool}
 use mathlib.Core.List.{List, [], _∷_}
 use lib.ListN.{length, drop}
 use Rattle.definitions.specs.Limits.{nodeLimit, workLimit}
 use Rattle.definitions.specs.Usage.{Usage, nodes, Nodes}
 use Rattle.definitions.specs.Stream.{read, readNode, writeNode}
 use Rattle.definitions.specs.Table.{Table, Setting}
-use Rattle.definitions.specs.Support.{supports}
 use Rattle.definitions.specs.Place.{Result, under, fold}
 use Rattle.definitions.specs.Sound.{Storable}
 use Rattle.definitions.specs.Calls.{written}
@@ -17,21 +15,6 @@ use Rattle.layout.specs.Places.{Known}
 use Rattle.answers.specs.Writing.{Gives}
 use Rattle.answers.specs.declared.Answer.{Answer}
 use Rattle.folding.specs.Folding.{Foldable}
-
--- behind its first byte, bs is a usage of n nodes, of which a type of the table may be asked
-pub record MemoryReady (table places : List ℕ) (ty : ℕ) (bs : List ℕ) (n : ℕ) (work : List ℕ) : Type 0 where
-  pub setting : Setting
-  pub known : Known table places setting
-  pub below : ty < length (setting .table)
-  pub usage : Usage
-  pub reads : readNode (drop 1 bs) ≡ read usage []
-  pub many : nodes usage ≡ n
-  pub few : n ≤ nodeLimit
-  pub area : length work ≡ workLimit
-
--- r says whether the type supports it
-pub record MemorySupported (table places : List ℕ) (ty offset : ℕ) (bs : List ℕ) (r : Bool) : Type 0 where
-  pub is : (st : Setting) → Known table places st → ty < length (st .table) → (u : Usage) → readNode (drop 1 bs) ≡ read u [] → r ≡ supports st ty offset u
 
 -- behind its first byte, bs is u, with types of the table t
 pub record Usable (t : Table) (bs : List ℕ) (u : Usage) : Type 0 where

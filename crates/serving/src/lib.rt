@@ -8,7 +8,7 @@ ghost use Rattle.answers.specs.Answers.{answerOf};
 ghost use Rattle.answers.specs.Writing.{Gives};
 ghost use Rattle.place_states.specs.Calls.{placing, merging};
 ghost use Rattle.folding.specs.Folding.{FoldReady};
-ghost use Rattle.serving.specs.Loaded.{MemoryReady, MemorySupported, PairReady, PairGiven, ListGiven};
+ghost use Rattle.serving.specs.Loaded.{PairReady, PairGiven, ListGiven};
 ghost use Rattle.serving.specs.Promised.{Promised};
 use analyze::merge_mem;
 use analyze::merge_mem_at;
@@ -68,23 +68,6 @@ pub fn sound(table: &[u8], work: &mut [u8], places: &mut [u32], s: &[u8]) -> Ans
     said(soundness::sound(work, 1))
 }
 
-// The usage of a Memory stream is loaded, and the type is asked.
-fn supports_loaded(
-    table: &[u8],
-    places: &[u32],
-    ty: u32,
-    offset: u32,
-    s: &[u8],
-    nodes: usize,
-    work: &mut [u8],
-) -> bool
-    requires { ⌜ MemoryReady (now table) (now places) ty (now s) nodes (now work) ⌝ }
-    ensures { λ r. ⌜ MemorySupported (now (table .entry)) (now (places .entry)) ty offset (now (s .entry)) r ⌝ }
-{
-    transfer_in::load(s, 1, nodes, work, 1);
-    support::supports_usage_at_offset(table, places, ty, offset, work, 1)
-}
-
 // Does a type, at an offset, support the usage of a Memory stream? It is loaded as for `sound`.
 pub fn supports(
     table: &[u8],
@@ -119,7 +102,8 @@ pub fn supports(
     if NODES < nodes {
         return refusal(MANY_NODES);
     }
-    said(supports_loaded(table, places, ty, offset, s, nodes, &mut work[..area()]))
+    transfer_in::load(s, 1, nodes, work, 1);
+    said(support::supports_usage_at_offset(table, places, ty, offset, work, 1))
 }
 
 // The usages of two Memories are loaded, and the second is put into the first at an offset.

@@ -1,13 +1,14 @@
 -- `supports` meets its contract: the refusals come in their order, and what is asked about is the usage that was read.
 -- Assumes nothing.
 use mathlib.Core.Path.{_∙_}
+use native.Mathlib.Omega.{arith}
 use borrow.Author.Needs.{needs}
 use borrow.Author.Tests.{not-true, not-false}
 use lib.ListN.{length}
 use Rattle.serving.proofs.Memories.{Memory, found, lost}
 use Rattle.inputs.proofs.Tables.{Begun, begin}
-use Rattle.serving.proofs.Lent.{area-within, area-counted}
-use Rattle.serving.proofs.Supporting.{supports-short, supports-tableless, supports-broken, in-table, supports-typeless, supports-unknown, supports-abstract, supports-many, supports-said, memory-ready, supported}
+use Rattle.serving.proofs.Loads.{loadable}
+use Rattle.serving.proofs.Supporting.{supports-short, supports-tableless, supports-broken, in-table, supports-typeless, supports-unknown, supports-abstract, supports-many, supports-said, memory-askable, memory-supported}
 use Rattle.serving.proofs.supports.Statement.{statement}
 use Rattle.serving.proofs.supports.Tie as tie
 
@@ -125,41 +126,35 @@ returns-7 c =
     let asked = c .before .before .before .is-concrete in
     rw (supports-many (begun (c .before .before .before .before .before .before .before .before .before .before .before .before .before .before .before)) (a .ty) (a .offset) (memory (c .before .before .before .before .before .before .before .before)) (c .before .before .before .before .before .before .if3 .left) (c .before .before .before .before .before .if4 .left) (asked .ensures) (not-false (asked .result) (c .before .before .if5 .left)) (c .before .if6 .taken)) (c .refusal7 .ensures)
 
-area-requires : tie.Need-area-requires
-area-requires c κs = search needs
+load-requires : tie.Need-load-requires
+load-requires c κs = loadable (memory (c .before .before .before .before .before .before .before .before)) (c .before .if6 .left) (rw (c .before .before .before .before .before .before .before .before .before .before .before .before .before .memory .kept .1 .0) (begun (c .before .before .before .before .before .before .before .before .before .before .before .before .before .before .before) .enough))
 
-slice-relend-prefix-supports-loaded : tie.Need-slice-relend-prefix-supports-loaded
-slice-relend-prefix-supports-loaded c = let read = c .before .before .before .before .before .before .before .before .before .before .before .before .before .before .memory in area-within (c .area .ensures) (read .last .1 .0) (read .kept .1 .0) (begun (c .before .before .before .before .before .before .before .before .before .before .before .before .before .before .before .before) .enough)
-
-slice-aggregate-supports-loaded : tie.Need-slice-aggregate-supports-loaded
-slice-aggregate-supports-loaded c = let read = c .before .before .before .before .before .before .before .before .before .before .before .before .before .before .before .memory in area-counted (c .before .area .ensures) (read .last .1 .0) (read .kept .1 .0) (begun (c .before .before .before .before .before .before .before .before .before .before .before .before .before .before .before .before .before) .enough)
-
-supports-loaded-requires : tie.Need-supports-loaded-requires
-supports-loaded-requires c κs =
-    let a = c .before .before .before .before .before .before .before .before .before .before .before .before .before .before .before .before .before .before .before .before .before .before .before .before .before .before .before .before .args in
-    let t = begun (c .before .before .before .before .before .before .before .before .before .before .before .before .before .before .before .before .before) in
-    let read = c .before .before .before .before .before .before .before .before .before .before .before .before .before .before .before .memory in
-    memory-ready t (a .ty) (a .offset) (memory (c .before .before .before .before .before .before .before .before .before .before)) (c .before .before .before .before .before .before .before .before .if3 .left) (c .before .before .before .if6 .left) (c .before .area .ensures) (read .last .1 .0) (read .kept .1 .0)
+supports-usage-at-offset-requires : tie.Need-supports-usage-at-offset-requires
+supports-usage-at-offset-requires c κs =
+    let a = c .before .before .before .before .before .before .before .before .before .before .before .before .before .before .before .before .before .before .before .before .before .before .before .before .before .before .before .before .before .before .before .args in
+    let t = begun (c .before .before .before .before .before .before .before .before .before .before .before .before .before .before .before .before .before .before .before .before) in
+    let loaded = c .before .before .before .before .load in
+    memory-askable t (a .ty) (a .offset) (memory (c .before .before .before .before .before .before .before .before .before .before .before .before .before)) (c .before .before .before .before .before .before .before .before .before .before .before .if3 .left) (loaded .ensures) (c .before .before .before .before .before .before .if6 .left) (omega (arith, t .enough, loaded .kept .1 .1 .1 .0, c .before .before .before .before .before .before .before .before .before .before .before .before .before .before .before .before .before .before .memory .kept .1 .0))
 
 said-requires : tie.Need-said-requires
 said-requires c κs = search needs
 
 same-length-12 : tie.Need-same-length-12
-same-length-12 c = c .before .before .work2 .given .1 ∙ c .before .before .before .before .before .before .before .before .before .before .before .before .before .before .before .before .before .before .before .memory .kept .1 .0
+same-length-12 c = search needs
 
 same-length-13 : tie.Need-same-length-13
-same-length-13 c = c .before .before .before .before .before .before .before .before .before .before .before .before .before .before .before .before .before .before .before .before .before .before .before .before .before .accept .kept .1 .0
+same-length-13 c = c .before .before .before .before .before .before .before .before .before .before .before .before .before .before .before .before .before .before .before .before .before .before .before .before .before .before .before .before .accept .kept .1 .0
 
 returns-8 : tie.Need-returns-8
 returns-8 c =
-    let a = c .before .before .before .before .before .before .before .before .before .before .before .before .before .before .before .before .before .before .before .before .before .before .before .before .before .before .before .before .before .before .before .before .args in
-    let t = begun (c .before .before .before .before .before .before .before .before .before .before .before .before .before .before .before .before .before .before .before .before .before) in
-    let m = memory (c .before .before .before .before .before .before .before .before .before .before .before .before .before .before) in
-    let asked = c .before .before .before .before .before .before .before .before .before .is-concrete in
-    let below = c .before .before .before .before .before .before .before .before .before .before .before .before .if3 .left in
+    let a = c .before .before .before .before .before .before .before .before .before .before .before .before .before .before .before .before .before .before .before .before .before .before .before .before .before .before .before .before .before .before .before .before .before .before .before .args in
+    let t = begun (c .before .before .before .before .before .before .before .before .before .before .before .before .before .before .before .before .before .before .before .before .before .before .before .before) in
+    let m = memory (c .before .before .before .before .before .before .before .before .before .before .before .before .before .before .before .before .before) in
+    let asked = c .before .before .before .before .before .before .before .before .before .before .before .before .is-concrete in
+    let below = c .before .before .before .before .before .before .before .before .before .before .before .before .before .before .before .if3 .left in
     rw (
-      supports-said t (a .ty) (a .offset) m below (c .before .before .before .before .before .before .before .before .before .before .before .if4 .left) (asked .ensures) (not-false (asked .result) (c .before .before .before .before .before .before .before .before .if5 .left)) (c .before .before .before .before .before .before .before .if6 .left),
-      ← supported t (a .ty) (a .offset) m below (c .before .before .before .supports-loaded .ensures),
+      supports-said t (a .ty) (a .offset) m below (c .before .before .before .before .before .before .before .before .before .before .before .before .before .before .if4 .left) (asked .ensures) (not-false (asked .result) (c .before .before .before .before .before .before .before .before .before .before .before .if5 .left)) (c .before .before .before .before .before .before .before .before .before .before .if6 .left),
+      ← memory-supported t (a .ty) (a .offset) m below (c .before .before .before .before .before .before .before .before .load .ensures) (c .before .before .before .supports-usage-at-offset .ensures .0),
     )
     (c .said .ensures)
 
@@ -197,10 +192,8 @@ supports-spec =
     same-length-10
     same-length-11
     returns-7
-    area-requires
-    slice-relend-prefix-supports-loaded
-    slice-aggregate-supports-loaded
-    supports-loaded-requires
+    load-requires
+    supports-usage-at-offset-requires
     said-requires
     same-length-12
     same-length-13
