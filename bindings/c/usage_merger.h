@@ -15,7 +15,7 @@
  *
  * Time: every call ends, and the placings of a merge are bounded, but not the questions that its
  * layout test asks of types. A table with dynamic elements inside of dynamic elements can make them
- * double with each level (1.8 s at 26 nodes, 7.2 s at 28, 32 s at 30). Run a call on tables or
+ * double with each level (3.1 s at 26 nodes, 12 s at 28, 46 s at 30). Run a call on tables or
  * usages from strangers where it can be stopped; docs/PERFORMANCE.md says what was found to grow.
  *
  *     cc program.c -I bindings/c -L target/staticlib -lexports
