@@ -490,7 +490,8 @@ pub fn find_components_containing(
                 Containing::Nothing
             }
             Components::Fields { at, count } => {
-                // Most questions end with the first search. It is compiled for itself, with all that its loop needs in registers.
+                // The first search is compiled for itself, with all that its loop needs in registers. Later ones come only where a
+                // component contains the range and does not support the usage.
                 if from == 0 {
                     return in_fields(s, places, at, count, 0, start, end);
                 }
