@@ -1,4 +1,6 @@
 // `merge_mem` and `merge_mem_at`, on linked records: a usage is the number of its record.
+#![tactic(auto)]
+
 ghost use Rattle.std.specs.Prelude.{◌≡◌, ◌+◌, ◌*◌, ◌≤◌, length};
 ghost use Rattle.links.specs.Rows.{nodes_at};
 ghost use Rattle.place_states.specs.Calls.{Ready, Near, placing, merging, Placed};

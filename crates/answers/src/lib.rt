@@ -1,5 +1,7 @@
 // What the calls give back: the numbers of their answers; and of place, merge and fold the usage and the report, once it is known
 // that both fit.
+#![tactic(auto)]
+
 ghost use Rattle.std.specs.Prelude.{◌≡◌, false, [], ◌++◌, ◌≤◌, length, drop, replicate};
 ghost use Rattle.definitions.specs.Place.{done};
 ghost use Rattle.definitions.specs.Calls.{refusal, said, written};
@@ -29,7 +31,7 @@ pub const SHORT_REPORT: u32 = 11;
 
 // What a call gives back as numbers: the lengths written; the pairings; 0 for answered, or the refusal; a yes or no. The widest stand
 // first, so that there is no gap between them.
-#[derive(Drop)]
+#[derive(Clone, Copy)]
 pub struct Answer {
     pub usage: usize,
     pub report: usize,

@@ -1,5 +1,7 @@
 // The calls: who receives; and those with a table, which lend places for its records. Places are cleared first, so a table that says
 // it has few records gets few.
+#![tactic(auto)]
+
 ghost use Rattle.std.specs.Prelude.{◌≡◌, length};
 ghost use Rattle.definitions.specs.Calls.{receiver_of, receiver_call, sound_call, supports_call, place_call, merge_call, fold_call};
 ghost use Rattle.answers.specs.Answers.{answer_of};
@@ -18,7 +20,7 @@ use stream::{Found, HeaderAt};
 const SHORT: usize = 1024;
 
 // Which of two streams receives.
-#[derive(Drop)]
+#[derive(Clone, Copy)]
 pub enum Received {
     Nobody,
     First,
@@ -26,7 +28,7 @@ pub enum Received {
 }
 
 // What the receiver rule asks of a Memory stream.
-#[derive(Drop)]
+#[derive(Clone, Copy)]
 enum Root {
     Memory { nodes: usize, node: Node },
     Broken,

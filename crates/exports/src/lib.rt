@@ -1,4 +1,6 @@
 // The calls for C and Rust. A slice is passed as a pointer and a length.
+#![tactic(auto)]
+
 ghost use Rattle.std.specs.Prelude.{◌≡◌, length};
 ghost use Rattle.definitions.specs.Calls.{receiver_of, sound_call, supports_call, place_call, merge_call, fold_call};
 ghost use Rattle.answers.specs.Answers.{answer_of};

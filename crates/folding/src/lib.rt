@@ -1,4 +1,6 @@
 // The nodes of a list, merged one after the other.
+#![tactic(auto)]
+
 ghost use Rattle.std.specs.Prelude.{◌≡◌, ◌∷◌};
 ghost use Rattle.definitions.specs.Stream.{bytes};
 ghost use Rattle.report.specs.Emitted.{Emitted};
@@ -14,7 +16,7 @@ use stream::Span;
 const LIST: u8 = 0x0B;
 
 // How far a fold has come: the nodes up to this place of the list have become the result, and records from `free` on are not in use.
-#[derive(Drop)]
+#[derive(Clone, Copy)]
 struct Folded {
     end: usize,
     free: usize,
@@ -22,7 +24,7 @@ struct Folded {
 }
 
 // A node of a list that has been loaded: its nodes, and the place behind it.
-#[derive(Drop)]
+#[derive(Clone, Copy)]
 struct Loaded {
     nodes: usize,
     end: usize,

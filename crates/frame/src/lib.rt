@@ -1,4 +1,6 @@
 // The program's input, three blocks, and the line that it prints.
+#![tactic(auto)]
+
 ghost use Rattle.std.specs.Prelude.{◌≡◌, ◌<◌, ◌≤◌, [], ◌∷◌, ◌++◌, length};
 ghost use Rattle.std.proofs.Math.Option.{none as nothing, some};
 ghost use Rattle.frame.specs.Put.{Put};
@@ -23,14 +25,14 @@ const END: u8 = 0x0A;
 const NONE: u8 = 0x2D;
 
 // Where a block ends that has its length in front.
-#[derive(Drop)]
+#[derive(Clone, Copy)]
 pub enum End {
     At(usize),
     Broken,
 }
 
 // Where the table, the first stream and the second one end.
-#[derive(Drop)]
+#[derive(Clone, Copy)]
 pub enum Frame {
     Blocks {
         table: usize,

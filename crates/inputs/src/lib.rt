@@ -1,5 +1,7 @@
 // What the calls are given: the refusals 1 to 7 of a table and its streams, in their order, but for 6; whether
 // an Opaque and another top conflict; and two usages loaded.
+#![tactic(auto)]
+
 ghost use Rattle.std.specs.Prelude.{◌≡◌, length};
 ghost use Rattle.layout.specs.Places.{Room};
 ghost use Rattle.inputs.specs.Inputs.{Met, Both, BothLoaded};
@@ -19,7 +21,7 @@ pub const NODES: usize = 512;
 const OPAQUE: u8 = 0x08;
 
 // What is known of a call's streams: the refusal that they meet, or 0 and their nodes.
-#[derive(Drop)]
+#[derive(Clone, Copy)]
 pub struct Inputs {
     pub refusal: u32,
     pub first: usize,

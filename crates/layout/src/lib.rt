@@ -1,4 +1,6 @@
 // Layout tables: which bytes are one, what the record of a type says, and which of its components contain a range.
+#![tactic(auto)]
+
 ghost use Rattle.std.specs.Prelude.{◌≡◌, true, ◌+◌, ◌*◌, ◌<◌, ◌≤◌, length, get_or};
 ghost use Rattle.numbers.specs.Words.{word};
 ghost use Rattle.definitions.specs.Table.{is_concrete, fixed_size, is_dynamic};
@@ -40,7 +42,7 @@ const COUNT: usize = 2;
 const MAX: u32 = 4294967295;
 
 // The layout of a type. A handle stands for an array of handles too.
-#[derive(Drop)]
+#[derive(Clone, Copy)]
 pub enum TypeLayout {
     // a dynamic stride of 0 is none
     Concrete {
@@ -52,7 +54,7 @@ pub enum TypeLayout {
     Failed,
 }
 
-#[derive(Drop)]
+#[derive(Clone, Copy)]
 pub enum Components {
     Scalar,
     // a length of 0 is none
@@ -61,21 +63,21 @@ pub enum Components {
     Fields { at: usize, count: usize },
 }
 
-#[derive(Drop)]
+#[derive(Clone, Copy)]
 pub struct Field {
     pub offset: u32,
     pub ty: u32,
 }
 
 // Where a record ends, if the bytes are one.
-#[derive(Drop)]
+#[derive(Clone, Copy)]
 pub enum RecordEnd {
     At(usize),
     Broken,
 }
 
 // What acceptance found: whether the bytes are a table, and how many records it has.
-#[derive(Drop)]
+#[derive(Clone, Copy)]
 pub struct Records {
     pub ok: bool,
     pub count: usize,
@@ -360,7 +362,7 @@ pub fn end_of(start: u32, size: MaxSize) -> u32
 }
 
 // The size of an element, if there is one.
-#[derive(Drop)]
+#[derive(Clone, Copy)]
 pub enum ElementSize {
     Bytes(u32),
     Missing,
@@ -390,7 +392,7 @@ fn element_size(size: u32, len: u32, index: u32) -> ElementSize
 }
 
 // The next component that contains a range: its type, the offset that remains in it, and the index to go on from.
-#[derive(Drop)]
+#[derive(Clone, Copy)]
 pub enum Containing {
     In { ty: u32, rest: u32, next: usize },
     Nothing,

@@ -1,1 +1,2 @@
 // How usages stand in linked records (specs/), and the laws of it (proofs/). There is no code here.
+#![tactic(auto)]

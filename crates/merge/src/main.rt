@@ -1,4 +1,6 @@
 // Merges two streams over a table: one frame from standard input, one line to standard output.
+#![tactic(auto)]
+
 use libc::{STDIN_FILENO, STDOUT_FILENO};
 
 // The buffer is one byte longer than the longest input, so that more is noticed.

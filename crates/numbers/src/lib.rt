@@ -1,4 +1,6 @@
 // Numbers in lent bytes, the lowest byte first.
+#![tactic(auto)]
+
 ghost use Rattle.std.specs.Prelude.{◌≡◌, ◌+◌, ◌*◌, ◌<◌, ◌≤◌, length};
 ghost use Rattle.numbers.specs.Words.{Width, number_at, put_at, word, put};
 

@@ -1,4 +1,6 @@
 // Rule 5: placing in an array.
+#![tactic(auto)]
+
 ghost use Rattle.std.specs.Prelude.{◌≡◌, ◌+◌, ◌*◌, ◌≤◌, length};
 ghost use Rattle.definitions.specs.Place.{fits_stride, stride_conflict};
 ghost use Rattle.qptr.specs.Values.{size_of};
@@ -39,7 +41,7 @@ fn has_stride(s: &[u8], q: usize, r: u32, stride: u32) -> bool
 }
 
 // What b does in an array: it goes into the element at r, its element is merged with the element, or neither.
-#[derive(Drop)]
+#[derive(Clone, Copy)]
 pub enum Meeting {
     Inside(u32),
     Elements,

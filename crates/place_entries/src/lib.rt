@@ -1,4 +1,6 @@
 // Rule 2: a map at offset 0 is placed entry by entry, in ascending order, each into the last result.
+#![tactic(auto)]
+
 ghost use Rattle.std.specs.Prelude.{◌≡◌};
 ghost use Rattle.records.specs.Records.{command_in};
 ghost use Rattle.place_states.specs.Calls.{Beside};

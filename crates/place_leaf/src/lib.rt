@@ -1,4 +1,6 @@
 // Rule 4: placing in a typed leaf, whose type must support b, or b's type the leaf.
+#![tactic(auto)]
+
 ghost use Rattle.std.specs.Prelude.{◌≡◌, ◌*◌, ◌+◌, ◌≤◌, length};
 ghost use Rattle.records.specs.Records.{command_in};
 ghost use Rattle.report.specs.Emitted.{Emitted};
@@ -12,7 +14,7 @@ use records::{argument, command, put_type};
 use support::{Asked, ask};
 
 // What is reported of a type that is kept.
-#[derive(Drop)]
+#[derive(Clone, Copy)]
 pub enum Conflict {
     Clear,
     Types,
@@ -20,7 +22,7 @@ pub enum Conflict {
     Failed,
 }
 
-#[derive(Drop)]
+#[derive(Clone, Copy)]
 pub struct Kept {
     pub ty: u32,
     pub conflict: Conflict,

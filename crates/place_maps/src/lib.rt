@@ -1,5 +1,7 @@
 // Rule 6: placing in a map. The entries that overlap b are linked the other way round, so that b is joined with them from the
 // highest down; nothing moves.
+#![tactic(auto)]
+
 ghost use Rattle.std.specs.Prelude.{◌≡◌, List, ℕ, ◌+◌, ◌*◌, ◌<◌, ◌≤◌, length};
 ghost use Rattle.records.specs.Records.{command_in};
 ghost use Rattle.place_states.specs.Calls.{Beside};

@@ -1,4 +1,6 @@
 // The rules of placing: sizes first, then by b's kind and by a's; what a pair has become, and what follows.
+#![tactic(auto)]
+
 ghost use Rattle.std.specs.Prelude.{◌≡◌, ◌+◌};
 ghost use Rattle.definitions.specs.Place.{size_refusal};
 ghost use Rattle.qptr.specs.Values.{size_of};

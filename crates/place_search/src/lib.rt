@@ -1,4 +1,6 @@
 // The entries of one map that overlap a range: found from the map's finger on, with a lent table searched downwards.
+#![tactic(auto)]
+
 ghost use Rattle.std.specs.Prelude.{◌≡◌, ◌+◌, ◌*◌, ◌<◌, ◌≤◌, length};
 ghost use Rattle.definitions.specs.Place.{ends};
 ghost use Rattle.qptr.specs.Values.{size_of};
@@ -26,7 +28,7 @@ const MOST: usize = 511;
 
 // The entries of a map: the last one below (0 for none), the first one that overlaps, and the first one above (0 for none); where no
 // entry overlaps, the last two are the same. Or one that overlaps ends past 32 bits.
-#[derive(Drop)]
+#[derive(Clone, Copy)]
 pub struct Overlap {
     pub low: usize,
     pub first: usize,
@@ -36,7 +38,7 @@ pub struct Overlap {
 
 // A table's row: the entry at record `node`. Where `fixed` is 0, its size is dynamic. There is no gap between the fields, so that an
 // empty table is plain zeros.
-#[derive(Drop)]
+#[derive(Clone, Copy)]
 pub struct Entry {
     pub offset: u32,
     pub size: u32,
@@ -159,7 +161,7 @@ fn entry_at(s: &[u8], q: usize) -> Entry
 
 // Of the entries that start before e: the record of the last that ends by d (0 for none), and that of the first behind them all (0 for
 // none). Where `all` is false, there are more than the table has rows, and `low` says nothing.
-#[derive(Drop)]
+#[derive(Clone, Copy)]
 struct Cut {
     low: usize,
     above: usize,
@@ -277,7 +279,7 @@ fn passes(s: &[u8], p: usize, d: u32, e: u64) -> bool
 }
 
 // The last entry that was stepped over, and the next one.
-#[derive(Drop)]
+#[derive(Clone, Copy)]
 struct Skipped {
     low: usize,
     at: usize,

@@ -1,9 +1,11 @@
 // What a placing has come to, and what it has yet to do.
+#![tactic(auto)]
+
 ghost use Rattle.std.specs.Prelude.{◌≡◌};
 ghost use Rattle.place_states.specs.Ends.{finished_state, refused_state, Unheaded};
 
 // What a placing, or a merge, has come to: the usage at record `node`.
-#[derive(Drop)]
+#[derive(Clone, Copy)]
 pub struct Outcome {
     pub node: usize,
     pub at: usize, // where the report goes on
@@ -13,7 +15,7 @@ pub struct Outcome {
 
 // What a placing has yet to do. A pair: x, and m, which goes into it at d. Or what the pairs so far have come to: x. The widest fields
 // stand first: without a gap a state is copied in whole pieces.
-#[derive(Drop)]
+#[derive(Clone, Copy)]
 pub struct State {
     pub x: usize, // if finished, the result
     pub m: usize,

@@ -1,4 +1,6 @@
 // Rule 3: placing in an Unused.
+#![tactic(auto)]
+
 ghost use Rattle.std.specs.Prelude.{◌≡◌};
 ghost use Rattle.records.specs.Records.{command_in};
 ghost use Rattle.place_states.specs.Calls.{Beside};

@@ -1,4 +1,6 @@
 // Sizes, commands and memory nodes: the values of the source's `qptr/mod.rs` and `qptr/shapes.rs`.
+#![tactic(auto)]
+
 ghost use Rattle.std.specs.Prelude.{◌≡◌, true, false};
 ghost use Rattle.definitions.specs.Usage.{Usage, unused, leaf, map, array, Entries, count};
 ghost use Rattle.definitions.specs.Command.{command_at};
@@ -6,7 +8,7 @@ ghost use Rattle.definitions.specs.Place.{◌<ˢ◌};
 ghost use Rattle.qptr.specs.Values.{size_of, row_of, part_of, part_by, Stands, Receives};
 
 // The source's `max_size`: `Some` is Fixed, `None` is Dynamic.
-#[derive(Drop)]
+#[derive(Clone, Copy)]
 pub enum MaxSize {
     Fixed(u32),
     Dynamic,
@@ -28,7 +30,7 @@ impl MaxSize {
 }
 
 // The widths in bytes of what follows a command, and the strictness of a node: 0 any, 1 array, 2 exact.
-#[derive(Drop)]
+#[derive(Clone, Copy)]
 pub struct Command {
     pub size: u8,
     pub argument: u8,
@@ -143,7 +145,7 @@ impl Command {
 }
 
 // A memory node without its children: the source's `QPtrMemUsage`, whose kind is its command and its argument.
-#[derive(Drop)]
+#[derive(Clone, Copy)]
 pub struct Node {
     pub command: u8,
     pub size: MaxSize,

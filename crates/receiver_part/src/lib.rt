@@ -1,4 +1,6 @@
 // The part that `receiver` hands back, given to C, which sees where it lies and how long it is. For the comparison alone.
+#![tactic(auto)]
+
 ghost use Rattle.std.specs.Prelude.{length};
 ghost use Rattle.libc.specs.Io.{Moved};
 ghost use Rattle.definitions.specs.Calls.{receiver_call};

@@ -1,4 +1,6 @@
 // Node records in lent bytes, linked: a node names its first child, and an entry the next one of its map. Nothing moves.
+#![tactic(auto)]
+
 ghost use Rattle.std.specs.Prelude.{◌≡◌, ◌+◌, ◌*◌, ◌<◌, ◌≤◌, length};
 ghost use Rattle.qptr.specs.Values.{size_of};
 ghost use Rattle.numbers.specs.Words.{number_at, put_at};

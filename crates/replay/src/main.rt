@@ -1,4 +1,6 @@
 // Runs the recorded answers, and says in one line what came of them.
+#![tactic(auto)]
+
 ghost use Rattle.replaying.specs.Parts.{Single};
 ghost use Rattle.replay.specs.Within.{Within};
 
@@ -6,20 +8,20 @@ use libc::STDOUT_FILENO;
 use numbers::get32;
 use replaying::Ran;
 
-#[derive(Drop)]
+#[derive(Clone, Copy)]
 enum Number {
     Is(u32),
     Missing,
 }
 
 // A record's length, where it has come whole.
-#[derive(Drop)]
+#[derive(Clone, Copy)]
 enum Fetched {
     Record(usize),
     Broken,
 }
 
-#[derive(Drop)]
+#[derive(Clone, Copy)]
 enum Replayed {
     Whole {
         records: u32,

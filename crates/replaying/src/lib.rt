@@ -1,5 +1,7 @@
 // A recorded answer: its call is made, and all that it gives back is compared. Nothing is assumed of the bytes, whose form is
 // that of `differential/README.md`.
+#![tactic(auto)]
+
 ghost use Rattle.std.specs.Prelude.{◌≡◌, ◌+◌, ◌≤◌, true, length, get_or, replicate};
 ghost use Rattle.numbers.specs.Words.{word};
 ghost use Rattle.answers.specs.Answers.{answer_of};
@@ -59,28 +61,28 @@ const TEXT_AT: usize = 22;
 const WRITTEN_AT: usize = 30;
 
 // Where the table, the first stream and the second one end.
-#[derive(Drop)]
+#[derive(Clone, Copy)]
 struct Parts {
     table: usize,
     first: usize,
     second: usize,
 }
 
-#[derive(Drop)]
+#[derive(Clone, Copy)]
 enum Record {
     Whole(Parts),
     Broken,
 }
 
 // How many records were compared, and how many of them differ.
-#[derive(Drop)]
+#[derive(Clone, Copy)]
 pub struct Counts {
     pub compared: u32,
     pub different: u32,
 }
 
 // What came of one record.
-#[derive(Drop)]
+#[derive(Clone, Copy)]
 pub enum Ran {
     Record(Counts),
     Broken,

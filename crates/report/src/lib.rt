@@ -1,4 +1,6 @@
 // The report: bytes appended at a position that counts on past the end of the buffer, where they are dropped.
+#![tactic(auto)]
+
 ghost use Rattle.std.specs.Prelude.{◌≡◌, ◌-◌, ◌≤◌, [], ◌∷◌, ◌++◌, length, take, replicate};
 ghost use Rattle.definitions.specs.Place.{straddle_conflict};
 ghost use Rattle.definitions.specs.Stream.{bytes};

@@ -1,4 +1,6 @@
 // The calls over places that are lent for the table's records: refusals in their order, then the answer.
+#![tactic(auto)]
+
 ghost use Rattle.std.specs.Prelude.{◌≡◌, length};
 ghost use Rattle.definitions.specs.Limits.{work_limit};
 ghost use Rattle.definitions.specs.Calls.{sound_call, supports_call, place_call, merge_call, fold_call};

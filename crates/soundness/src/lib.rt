@@ -1,4 +1,6 @@
 // Sound usages, over their records: each record's own rules, one after the other.
+#![tactic(auto)]
+
 ghost use Rattle.std.specs.Prelude.{◌≡◌, false};
 ghost use Rattle.definitions.specs.Usage.{fixed};
 ghost use Rattle.definitions.specs.Place.{ends, past32, ◌≤ˢ◌};

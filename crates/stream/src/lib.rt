@@ -1,5 +1,7 @@
 // Streams: which bytes are one. A stream may be longer and deeper than any stack, so nothing here recurses. A window that is lent, of
 // any length, has room for some levels; what it holds before and afterwards does not matter.
+#![tactic(auto)]
+
 ghost use Rattle.std.specs.Prelude.{◌≡◌, ℕ, ◌+◌, ◌-◌, ◌*◌, ◌≤◌, ◌<◌, max, length, get_or, drop};
 ghost use Rattle.definitions.specs.Limits.{max32};
 ghost use Rattle.definitions.specs.Usage.{nodes, nodes_of, top_nodes, all_nodes};
@@ -36,14 +38,14 @@ const LIST: u8 = 0x0B;
 const LEVEL: usize = 6;
 
 // What acceptance tells: the nodes of a stream, and one more than its largest type (0 for no type); or that the bytes are none.
-#[derive(Drop)]
+#[derive(Clone, Copy)]
 pub enum Found {
     Stream { nodes: usize, types: u64 },
     Broken,
 }
 
 // The node at a place: where it ends, and what it tells.
-#[derive(Drop)]
+#[derive(Clone, Copy)]
 pub enum Span {
     Node {
         end: usize,
@@ -54,14 +56,14 @@ pub enum Span {
 }
 
 // A node's own part at a place, and where that ends.
-#[derive(Drop)]
+#[derive(Clone, Copy)]
 pub enum HeaderAt {
     Header { node: Node, end: usize },
     Broken,
 }
 
 // The size at a place.
-#[derive(Drop)]
+#[derive(Clone, Copy)]
 enum SizeAt {
     Size(MaxSize),
     Broken,
@@ -69,7 +71,7 @@ enum SizeAt {
 
 // How a walk over nodes goes on behind an own part: at an array's element; at an entry, with so many owed behind that one; or it has
 // come to its end.
-#[derive(Drop)]
+#[derive(Clone, Copy)]
 enum Next {
     Element,
     Entry(usize),
@@ -79,7 +81,7 @@ enum Next {
 
 // The maps around a place of which entries are left there, and whose order is still to be seen: how many are left of the innermost and
 // its last offset, and how many levels of a window are for those around it. None is left only if there is no such map.
-#[derive(Drop)]
+#[derive(Clone, Copy)]
 struct Maps {
     left: u32,
     last: u32,
@@ -87,14 +89,14 @@ struct Maps {
 }
 
 // The maps behind an offset; or that an offset is not above the one before it in its map.
-#[derive(Drop)]
+#[derive(Clone, Copy)]
 enum Order {
     Kept(Maps),
     Broken,
 }
 
 // Where a node ends, if it is one.
-#[derive(Drop)]
+#[derive(Clone, Copy)]
 enum Skipped {
     To(usize),
     Broken,

@@ -1,4 +1,6 @@
 // What a layout supports: the source's `supports_usage_at_offset`, over a usage's records and a table's bytes.
+#![tactic(auto)]
+
 ghost use Rattle.std.specs.Prelude.{◌≡◌, true, false, ◌&&◌, ◌+◌, ◌*◌, ◌<◌, ◌≤◌, eqb, length};
 ghost use Rattle.definitions.specs.Support.{outside, same_length};
 ghost use Rattle.qptr.specs.Values.{size_of};
@@ -17,7 +19,7 @@ use support_memory::{IN_TURNS, LONG_WORDS, Recalled, SHORT_WORDS, forget, recall
 const MAX: u32 = 4294967295;
 
 // What the first tests say: an answer, or that the components are asked, and then the usage itself.
-#[derive(Drop)]
+#[derive(Clone, Copy)]
 enum First {
     No,
     Yes,
@@ -458,7 +460,7 @@ pub fn supports_usage_at_offset(
 }
 
 // The answer of a type: one that is a handle, or whose layout failed, is not asked.
-#[derive(Drop)]
+#[derive(Clone, Copy)]
 pub enum Asked {
     No,
     Yes,

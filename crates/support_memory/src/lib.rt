@@ -1,4 +1,6 @@
 // What questions of support remember: answers that were given, in the spare words of the nodes and in a list.
+#![tactic(auto)]
+
 ghost use Rattle.std.specs.Prelude.{◌≡◌, ◌+◌, ◌*◌, ◌<◌, ◌≤◌, length};
 ghost use Rattle.records.specs.Records.{command_in, size_in, tag_in};
 ghost use Rattle.support_memory.specs.Nodes.{UsageAt, Forgotten};
@@ -17,7 +19,7 @@ pub const SHORT_WORDS: usize = 512;
 pub const LONG_WORDS: usize = 8192;
 
 // What is remembered of a question.
-#[derive(Drop)]
+#[derive(Clone, Copy)]
 pub enum Recalled {
     Nothing,
     No,

@@ -1,4 +1,6 @@
 // Usages loaded from streams into linked records: node by node in the order of the stream, and then linked from the last to the first.
+#![tactic(auto)]
+
 ghost use Rattle.std.specs.Prelude.{◌≡◌, ◌+◌, ◌*◌, ◌≤◌, length};
 ghost use Rattle.qptr.specs.Values.{size_of};
 ghost use Rattle.records.specs.Records.{command_in};
