@@ -1,0 +1,13 @@
+-- The invariant: n records stand where the places say, and the rest of the table is to be read behind them.
+use Prim.Native.Nat.{◌-◌}
+use mathlib.Core.Path.{◌≡◌, refl}
+use lib.ListN.{length, length-set}
+use borrow.Author.Rules.{rules}
+use Rattle.layout.proofs.Acceptance.{whole_record, refuses, accepts, Reading, no_count, many_records, first_record, no_record, not_admitted, next_record, left_over, found}
+use Rattle.layout.proofs.accept.Given as goal
+
+abbrev pub invariant-loop-n : goal.invariant-loop-n
+invariant-loop-n l = Reading l.s l.count l.initial.count l.at l.n × (length l.count ≡ length l.places)
+
+abbrev pub decreases-loop-n : goal.decreases-loop-n
+decreases-loop-n l = l.initial.count - l.n

@@ -1,0 +1,43 @@
+-- Each kind has its length; any other byte is no kind.
+use native.Mathlib.Omega.{arith}
+use borrow.Author.Rules.{rules}
+use Rattle.layout.proofs.View.{refused}
+use Rattle.layout.proofs.Ends.{handle_ends, failed_ends, scalar_ends}
+use Rattle.layout.proofs.record_end.Goals as goal
+
+pub returns-then-left-eq0 : goal.returns-then-left-eq0
+returns-then-left-eq0 c = let a = c.args in refused a.s.now a.at (omega arith) (omega arith) (omega arith) (omega arith) (omega arith)
+
+pub returns-then-kind-eq-HANDLE : goal.returns-then-kind-eq-HANDLE
+returns-then-kind-eq-HANDLE c = let a = c.args in handle_ends a.s.now a.at (omega arith) (omega arith)
+
+pub returns-then-kind-eq-FAILED : goal.returns-then-kind-eq-FAILED
+returns-then-kind-eq-FAILED c = let a = c.args in failed_ends a.s.now a.at (omega arith) (omega arith)
+
+pub returns-then-left-ge9 : goal.returns-then-left-ge9
+returns-then-left-ge9 c = let a = c.args in scalar_ends a.s.now a.at (omega arith) (omega arith)
+
+pub returns-else-left-ge9 : goal.returns-else-left-ge9
+returns-else-left-ge9 c = let a = c.args in refused a.s.now a.at (omega arith) (omega arith) (omega arith) (omega arith) (omega arith)
+
+pub returns-else-kind-eq-SCALAR : goal.returns-else-kind-eq-SCALAR
+returns-else-kind-eq-SCALAR c = let a = c.args in refused a.s.now a.at (omega arith) (omega arith) (omega arith) (omega arith) (omega arith)
+
+record-end-spec =
+    tie.close
+    (tie.spec
+    sub-left
+    returns
+    shared-slice-read-kind
+    add-t9
+    returns-2
+    add-t10
+    returns-3
+    elements-end-requires
+    returns-4
+    fields-end-requires
+    returns-5
+    add-t12
+    returns-6
+    returns-7
+    returns-8)

@@ -1,0 +1,17 @@
+-- `alone` meets its contract: a node that ends where the bytes do is all of them.
+use borrow.Author.Rules.{rules}
+use Rattle.stream.proofs.Wholes.{whole_all, whole_not}
+use Rattle.stream.proofs.alone.Goals as goal
+
+pub returns-in_default : goal.returns-in_default
+returns-in_default c = rw (rw c.in_default.is at c.node.ensures)
+
+pub returns-then-end-s : goal.returns-then-end-s
+returns-then-end-s c =
+    let here = rw c.in-Node.is at c.node.ensures in
+    rw (here.reads, whole_all here.usage _ _ c.if-end-s.true, here.counted, here.bounded)
+
+pub returns-else-end-s : goal.returns-else-end-s
+returns-else-end-s c =
+    let here = rw c.in-Node.is at c.node.ensures in
+    rw (here.reads, whole_not here.usage _ _ here.within c.if-end-s.false)

@@ -1,0 +1,14 @@
+-- `skip` meets its contract: the loop keeps that if the node at `from` reads, so does what is still to be read, and fewer bytes are left at each turn.
+use Prim.Native.Nat.{◌-◌}
+use native.Mathlib.Omega.{arith}
+use borrow.Author.Rules.{rules}
+use lib.ListN.{length}
+use Rattle.stream.specs.Head.{OutlineAt}
+use Rattle.stream.proofs.Skipping.{Skipping, Skips_on, skip_start, skip_stop, skip_turn}
+use Rattle.stream.proofs.skip.Given as goal
+
+abbrev pub invariant-loop-node : goal.invariant-loop-node
+invariant-loop-node l = Skipping l.s l.from l.at l.owed
+
+abbrev pub decreases-loop-node : goal.decreases-loop-node
+decreases-loop-node l = length l.s - l.at
