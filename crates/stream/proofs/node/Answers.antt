@@ -53,7 +53,7 @@ entered-requires c =
     (part, here.other, here.long, c.loop-node.invariant.1.held)
 
 pub shape_of-window-in_default-entered : goal.shape_of-window-in_default-entered
-shape_of-window-in_default-entered c = c.entered.auto.1.1.1.1.1.0 ∙ c.loop-node.invariant.0
+shape_of-window-in_default-entered c = c.entered.auto.window ∙ c.loop-node.invariant.0
 
 pub returns-in_default-entered : goal.returns-in_default-entered
 returns-in_default-entered c =
@@ -81,7 +81,7 @@ loop-node-preserved c =
     let a = c.args in
     let inv = c.loop-node.invariant in
     let bound = c.bound.ensures in (
-      c.entered.auto.1.1.1.1.1.0 ∙ inv.0,
+      c.entered.auto.window ∙ inv.0,
       count_entry a.s.now a.from inv.1 part types (omega arith) owes (rw c.in-Kept.is at c.entered.ensures),
     )
 

@@ -11,7 +11,7 @@ pub loop-left-init : goal.loop-left-init
 loop-left-init c = let a = c.args in (refl, list_start a.s.now a.from a.count c.requires)
 
 pub shape_of-window-in_default : goal.shape_of-window-in_default
-shape_of-window-in_default c = c.node.auto.1.1.0 ∙ c.loop-left.invariant.0
+shape_of-window-in_default c = c.node.auto.window ∙ c.loop-left.invariant.0
 
 pub returns-in_default : goal.returns-in_default
 returns-in_default c =
@@ -29,7 +29,7 @@ loop-left-preserved c =
     let here : (NodeAt c.args.s.now c.loop-left.at c.in-Node.end c.in-Node.more c.in-Node.bound) = rw c.in-Node.is at c.node.ensures in
     let a = c.args in
     let inv = c.loop-left.invariant in (
-      c.node.auto.1.1.0 ∙ inv.0,
+      c.node.auto.window ∙ inv.0,
       list_on a.s.now a.from a.count inv.1 (omega arith) here c.max-types.ensures,
     )
 

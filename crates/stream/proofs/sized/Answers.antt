@@ -48,7 +48,7 @@ returns-then-not-known c =
     let own : Head = record { command = c.in-Header.node.command; size = size_of c.in-Size.size; argument = c.in-Header.node.argument } in
     head (drop a.at a.s.now) ≡ (if c.known.result then read own (drop c.in-Header.end a.s.now) else broken)) = let sized = rw c.in-Size.is at c.size.ensures in
     rw (part.reads, ← width, sized) (c.known.ensures _ _) in
-    whole ∙ rw (not-true c.known.result c.if-not-known.true)
+    whole ∙ rw c.if-not-known.true
 
 pub returns : goal.returns
 unfolding if◌then◌else◌
@@ -61,7 +61,7 @@ returns c =
     head (drop a.at a.s.now) ≡ (if c.known.result then read own (drop c.in-Header.end a.s.now) else broken)) = let sized = rw c.in-Size.is at c.size.ensures in
     rw (part.reads, ← width, sized) (c.known.ensures _ _) in
     let here = part in
-    let read = rw (not-false c.known.result c.if-not-known.false) at whole in
+    let read = rw c.if-not-known.false at whole in
     record {
       reads = node_reads _ read c.of.result c.of.ensures;
       taken = omega (arith, here.taken);

@@ -18,7 +18,7 @@ pub returns-in-9 : goal.returns-in-9
 returns-in-9 c = c.alone.ensures ∙ sym (top_node c.args.s.now (omega arith) (omega arith))
 
 pub returns-in_default : goal.returns-in_default
-returns-in_default c = rw (top_other c.args.s.now c.in_default-1.rest.1 (λ low high. omega arith))
+returns-in_default c = rw (top_other c.args.s.now c.in_default.in_default-own.rest.1 (λ low high. omega arith))
 
 pub returns-in_default-2 : goal.returns-in_default-2
-returns-in_default-2 c = rw (top_other c.args.s.now c.in_default-1.rest.1 (λ low high. omega arith))
+returns-in_default-2 c = rw (top_other c.args.s.now c.in_default.in_default-own.rest.1 (λ low high. omega arith))
