@@ -19,11 +19,11 @@ fields_read s (suc k) i j e h =
 -- as `number_then`, of all fields
 pub fields_then : {B : Type 0} (P : Read B → Type 0) (s : List ℕ) (k i j : ℕ) (next : List Field → List ℕ → Read B) → i + k * 8 ≡ j → i ≤ length s →
     P broken → (j ≤ length s → P (next (fields_at s i k) (drop j s))) → P (read_fields k (drop i s) then next)
-fields_then P s zero i j next e l b f = let z : i ≡ j = omega arith in rw z (f (omega arith))
-fields_then P s (suc k) i j next e l b f =
+fields_then {B = B} P s zero i j next e l b f = let z : i ≡ j = omega arith in rw z (f (omega arith))
+fields_then {B = B} P s (suc k) i j next e l b f =
     number_then (λ x. P (x then next)) 4 s i (i + 4) _ l b (omega arith) λ l₁.
     number_then (λ x. P (x then next)) 4 s (i + 4) (i + 8) _ l₁ b (omega arith) λ l₂.
-    fields_then (λ x. P (x then next)) s k (i + 8) j _ (omega arith) l₂ b f
+    fields_then {B = List Field} (λ x. P (x then next)) s k (i + 8) j _ (omega arith) l₂ b f
 
 -- the fields from i on, and the first of them
 

@@ -15,11 +15,6 @@ returns-then-count-gt-RECORDS c = refuses (search (many_records, rules))
 pub loop-n-init : goal.loop-n-init
 loop-n-init c = (search (first_record, rules), refl)
 
-pub record_end-requires : goal.record_end-requires
-
-
-record-end-requires c κs = search rules
-
 pub returns-in_default : goal.returns-in_default
 returns-in_default c = refuses (search (no_record, rules))
 

@@ -7,7 +7,7 @@ use Rattle.layout.proofs.Acceptance.{whole_record, refuses, accepts, Reading, no
 use Rattle.layout.proofs.accept.Given as goal
 
 abbrev pub invariant-loop-n : goal.invariant-loop-n
-invariant-loop-n l = Reading l.s l.count l.initial.count l.at l.n × (length l.count ≡ length l.places)
+invariant-loop-n l = Reading l.s l.places l.count l.at l.n × (length l.places ≡ length l.initial.places)
 
 abbrev pub decreases-loop-n : goal.decreases-loop-n
-decreases-loop-n l = l.initial.count - l.n
+decreases-loop-n l = l.count - l.n

@@ -22,22 +22,3 @@ returns-else-left-ge9 c = let a = c.args in refused a.s.now a.at (omega arith) (
 
 pub returns-else-kind-eq-SCALAR : goal.returns-else-kind-eq-SCALAR
 returns-else-kind-eq-SCALAR c = let a = c.args in refused a.s.now a.at (omega arith) (omega arith) (omega arith) (omega arith) (omega arith)
-
-record-end-spec =
-    tie.close
-    (tie.spec
-    sub-left
-    returns
-    shared-slice-read-kind
-    add-t9
-    returns-2
-    add-t10
-    returns-3
-    elements-end-requires
-    returns-4
-    fields-end-requires
-    returns-5
-    add-t12
-    returns-6
-    returns-7
-    returns-8)
