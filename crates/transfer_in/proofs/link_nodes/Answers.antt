@@ -1,0 +1,28 @@
+-- `transfer_in::link_nodes` meets its contract: from record i on all is linked, and each turn links one record more.
+use Prim.Native.Nat.{◌+◌, ◌-◌, ◌≤◌}
+use mathlib.Core.Path.{◌≡◌, refl, ◌∙◌}
+use native.Mathlib.Omega.{arith}
+use lib.ListN.{length}
+use borrow.Author.Rules.{rules}
+use Rattle.transfer_in.proofs.Backwards.{Linking, linking_none, linking_more, all_tied, ripe_at}
+use Rattle.transfer_in.proofs.link_nodes.Goals as goal
+
+pub loop-i-init : goal.loop-i-init
+loop-i-init c = (linking_none _ _ _, omega arith, omega arith, refl)
+
+pub link-requires : goal.link-requires
+link-requires c =
+    let inv = c.loop-i.invariant in
+    ripe_at inv.0 (omega arith) (omega arith) inv.2 c.requires inv.3
+
+pub loop-i-preserved : goal.loop-i-preserved
+loop-i-preserved c =
+    let inv = c.loop-i.invariant in
+    let linked = c.link in
+    (linking_more inv.0 (omega arith) (omega arith) inv.2 c.requires linked.ensures, omega arith, omega arith, linked.auto.0 ∙ inv.3)
+
+pub shape_of-work : goal.shape_of-work
+shape_of-work c = c.loop-i.invariant.3
+
+pub returns : goal.returns
+returns c = let inv = c.loop-i.invariant in all_tied inv.0 (omega arith)

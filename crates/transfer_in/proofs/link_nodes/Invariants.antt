@@ -1,0 +1,14 @@
+-- `transfer_in::link_nodes` meets its contract: from record i on all is linked, and each turn links one record more.
+use Prim.Native.Nat.{◌+◌, ◌-◌, ◌≤◌}
+use mathlib.Core.Path.{◌≡◌, refl, ◌∙◌}
+use native.Mathlib.Omega.{arith}
+use lib.ListN.{length}
+use borrow.Author.Rules.{rules}
+use Rattle.transfer_in.proofs.Backwards.{Linking, linking_none, linking_more, all_tied, ripe_at}
+use Rattle.transfer_in.proofs.link_nodes.Given as goal
+
+abbrev pub invariant-loop-i : goal.invariant-loop-i
+invariant-loop-i l = Linking l.initial.work l.work l.q l.n l.i × (l.q ≤ l.i) × (l.i ≤ l.q + l.n) × (length l.work ≡ length l.initial.work)
+
+abbrev pub decreases-loop-i : goal.decreases-loop-i
+decreases-loop-i l = l.i - l.q

@@ -1,0 +1,59 @@
+-- `transfer_in::load_nodes` meets its contract: each turn takes one node out of the bytes that are left.
+use Prim.Native.Nat.{ℕ, ◌-◌, ◌<◌, ◌≤◌}
+use mathlib.Core.Path.{◌≡◌, refl, ◌∙◌}
+use native.Mathlib.Omega.{arith}
+use borrow.Author.Rules.{rules}
+use lib.ListN.{length, get_or}
+use Rattle.numbers.specs.Words.{Width}
+use Rattle.transfer_in.specs.Loading.{KeptBelow}
+use Rattle.transfer_in.proofs.Loading.{this_turn, Loads, same_nodes, loads_none, loads_more, loads_done, begins_inside}
+use Rattle.transfer_in.proofs.Widths.{front_width}
+use Rattle.transfer_in.proofs.load_nodes.Goals as goal
+
+pub loop-i-init : goal.loop-i-init
+loop-i-init c =
+    let small : (k : ℕ) → get_or c.args.s.now k 0 < 256 = λ k. (c.type_inv.s k).fits in
+    (loads_none small, (λ j lt. refl), record { even = refl; small = omega arith }, omega arith, omega arith, begins_inside small c.requires, refl)
+
+pub load_own-p-requires : goal.load_own-p-requires
+load_own-p-requires c =
+    let loop = c.loop-i in
+    let here = this_turn loop.invariant.0 loop.invariant.3 c.requires refl (omega arith) in
+    record {
+      offset = here.offset;
+      usage = here.usage;
+      rest = here.after;
+      stands = here.stands;
+      width = loop.invariant.2;
+      inside = omega (arith, c.requires.inside, loop.invariant.6);
+    }
+
+pub front_behind-front-requires : goal.front_behind-front-requires
+front_behind-front-requires c = omega (arith, c.requires.inside, c.loop-i.invariant.6, c.load_own-p.auto.work)
+
+pub loop-i-preserved : goal.loop-i-preserved
+loop-i-preserved c =
+    let inv = c.loop-i.invariant in
+    let loaded = c.load_own-p in (
+      loads_more inv.0 inv.3 (omega arith) loaded.ensures c.front_behind-front.ensures,
+      (λ j lt. loaded.ensures.others j (omega arith) ∙ inv.1 j lt),
+      rw c.front_behind-front.ensures (front_width _),
+      omega arith,
+      omega arith,
+      loaded.ensures.within,
+      loaded.auto.1.1.1.0 ∙ inv.6,
+    )
+
+pub shape_of-work : goal.shape_of-work
+shape_of-work c = c.loop-i.invariant.6
+
+pub returns : goal.returns
+returns c =
+    let inv = c.loop-i.invariant in
+    let same = same_nodes c.requires in
+    record {
+      raw = λ u rest e. (loads_done inv.0 inv.3 (omega arith) u rest e (same u rest e)).0;
+      behind = λ u rest e. (loads_done inv.0 inv.3 (omega arith) u rest e (same u rest e)).1;
+      within = inv.5;
+      kept = inv.1;
+    }

@@ -1,0 +1,54 @@
+-- `transfer_in::load_own` meets its contract: each part is read where it stands, and the record says them.
+use Prim.Native.Nat.{◌+◌}
+use native.Mathlib.Omega.{arith}
+use borrow.Author.Rules.{rules}
+use Rattle.transfer_in.proofs.OwnRead.{head_inside, own_inside, own_loaded}
+use Rattle.transfer_in.proofs.load_own.Goals as goal
+
+pub overflow_add-h : goal.overflow_add-h
+overflow_add-h c = omega (arith, head_inside c.requires)
+
+pub bounds-s-h : goal.bounds-s-h
+bounds-s-h c = omega (arith, head_inside c.requires)
+
+pub overflow_add-end : goal.overflow_add-end
+overflow_add-end c = omega (arith, (own_inside c.requires c.of_node-row.ensures).2)
+
+pub overflow_add-end-2 : goal.overflow_add-end-2
+overflow_add-end-2 c = omega (arith, (own_inside c.requires c.of_node-row.ensures).2)
+
+pub overflow_add-end-3 : goal.overflow_add-end-3
+overflow_add-end-3 c = omega (arith, (own_inside c.requires c.of_node-row.ensures).2)
+
+pub number-o-requires : goal.number-o-requires
+number-o-requires c = (c.requires.width, omega (arith, head_inside c.requires))
+
+pub overflow_add-h-2 : goal.overflow_add-h-2
+overflow_add-h-2 c = omega (arith, head_inside c.requires)
+
+pub size-z-requires : goal.size-z-requires
+size-z-requires c = let inside = own_inside c.requires c.of_node-row.ensures in (inside.0, omega (arith, inside.2))
+
+pub overflow_add-h-3 : goal.overflow_add-h-3
+overflow_add-h-3 c = omega (arith, (own_inside c.requires c.of_node-row.ensures).2)
+
+pub overflow_add-h-4 : goal.overflow_add-h-4
+overflow_add-h-4 c = omega (arith, (own_inside c.requires c.of_node-row.ensures).2)
+
+pub number-a-requires : goal.number-a-requires
+number-a-requires c = let inside = own_inside c.requires c.of_node-row.ensures in (inside.1, inside.2)
+
+pub overflow_cast-c : goal.overflow_cast-c
+overflow_cast-c c =
+    let a = c.args in
+    omega (arith, c.type_inv.s (a.at + a.front))
+
+pub put_record-requires : goal.put_record-requires
+put_record-requires c =
+    let a = c.args in
+    (c.requires.inside, omega (arith, c.type_inv.s (a.at + a.front)))
+
+pub returns : goal.returns
+returns c =
+    own_loaded c.requires c.of_node-row.ensures
+    c.number-o.ensures c.size-z.ensures c.number-a.ensures c.put_record.ensures
