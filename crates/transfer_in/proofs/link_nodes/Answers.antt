@@ -18,8 +18,7 @@ link-requires c =
 pub loop-i-preserved : goal.loop-i-preserved
 loop-i-preserved c =
     let inv = c.loop-i.invariant in
-    let linked = c.link in
-    (linking_more inv.0 (omega arith) (omega arith) inv.2 c.requires linked.ensures, omega arith, omega arith, linked.auto.0 ∙ inv.3)
+    (linking_more inv.0 (omega arith) (omega arith) inv.2 c.requires c.link.ensures, omega arith, omega arith, c.link.auto.s ∙ inv.3)
 
 pub shape_of-work : goal.shape_of-work
 shape_of-work c = c.loop-i.invariant.3

@@ -34,14 +34,14 @@ front_behind-front-requires c = omega (arith, c.requires.inside, c.loop-i.invari
 pub loop-i-preserved : goal.loop-i-preserved
 loop-i-preserved c =
     let inv = c.loop-i.invariant in
-    let loaded = c.load_own-p in (
-      loads_more inv.0 inv.3 (omega arith) loaded.ensures c.front_behind-front.ensures,
-      (λ j lt. loaded.ensures.others j (omega arith) ∙ inv.1 j lt),
+    (
+      loads_more inv.0 inv.3 (omega arith) c.load_own-p.ensures c.front_behind-front.ensures,
+      (λ j lt. c.load_own-p.ensures.others j (omega arith) ∙ inv.1 j lt),
       rw c.front_behind-front.ensures (front_width _),
       omega arith,
       omega arith,
-      loaded.ensures.within,
-      loaded.auto.1.1.1.0 ∙ inv.6,
+      c.load_own-p.ensures.within,
+      c.load_own-p.auto.work ∙ inv.6,
     )
 
 pub shape_of-work : goal.shape_of-work

@@ -1,0 +1,49 @@
+-- `transfer_out::written_length` meets its contract: an element or an entry has fewer nodes than what holds it, so the nodes that are
+-- linked below the record fall at each call.
+use Prim.Native.Nat.{ℕ, ◌<◌}
+use native.Mathlib.Omega.{arith}
+use borrow.Author.Rules.{rules}
+use Rattle.links.specs.Rows.{chain, nodes_at}
+use Rattle.transfer_out.proofs.Roots.{command_byte}
+use Rattle.transfer_out.proofs.Writing.{Writing, element_readable, element_fewer, entry_readable, entry_fewer, entry_inside, writing_less}
+use Rattle.transfer_out.proofs.Measuring.{LengthOf, length_one, length_array, array_short, length_start, length_short, length_more, length_end}
+use Rattle.transfer_out.proofs.+written_length.Goals as goal
+
+pub own_width-n-requires : goal.own_width-n-requires
+own_width-n-requires t c = (search rules, search (command_byte, rules))
+
+pub written_length-requires : goal.written_length-requires
+written_length-requires t c = (search (element_fewer, rules), search (element_readable, rules))
+
+pub overflow_add-result : goal.overflow_add-result
+overflow_add-result t c = omega (arith, array_short _ _ _ _ _ _ c.command-c.ensures.0 c.if-c-eq4.true c.child.ensures.0 c.own_width-n.ensures c.written_length.ensures c.requires)
+
+pub returns-then-c-eq4 : goal.returns-then-c-eq4
+returns-then-c-eq4 t c = search (length_array, rules)
+
+pub loop-p-init : goal.loop-p-init
+loop-p-init t c = search (length_start, rules)
+
+pub written_length-requires-in-loop-p : goal.written_length-requires-in-loop-p
+written_length-requires-in-loop-p t c = (search (entry_fewer, rules), search (entry_readable, rules))
+
+pub overflow_add-n : goal.overflow_add-n
+overflow_add-n t c = omega (arith, length_short _ _ _ _ _ _ c.loop-p.invariant c.loop-p-test.true c.written_length-in-loop-p.ensures)
+
+pub overflow_add-n-in-loop-p : goal.overflow_add-n-in-loop-p
+overflow_add-n-in-loop-p t c = omega (arith, length_short _ _ _ _ _ _ c.loop-p.invariant c.loop-p-test.true c.written_length-in-loop-p.ensures)
+
+pub next-p-requires : goal.next-p-requires
+next-p-requires t c = search (entry_inside, rules)
+
+pub loop-p-smaller : goal.loop-p-smaller
+loop-p-smaller t c = search (writing_less, rules)
+
+pub loop-p-preserved : goal.loop-p-preserved
+loop-p-preserved t c = search (length_more, rules)
+
+pub returns-then-c-eq3 : goal.returns-then-c-eq3
+returns-then-c-eq3 t c = search (length_end, rules)
+
+pub returns : goal.returns
+returns t c = search (length_one, rules)

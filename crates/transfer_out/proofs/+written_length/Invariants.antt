@@ -1,0 +1,19 @@
+-- `transfer_out::written_length` meets its contract: an element or an entry has fewer nodes than what holds it, so the nodes that are
+-- linked below the record fall at each call.
+use Prim.Native.Nat.{ℕ, ◌<◌}
+use native.Mathlib.Omega.{arith}
+use borrow.Author.Rules.{rules}
+use Rattle.links.specs.Rows.{chain, nodes_at}
+use Rattle.transfer_out.proofs.Roots.{command_byte}
+use Rattle.transfer_out.proofs.Writing.{Writing, element_readable, element_fewer, entry_readable, entry_fewer, entry_inside, writing_less}
+use Rattle.transfer_out.proofs.Measuring.{LengthOf, length_one, length_array, array_short, length_start, length_short, length_more, length_end}
+use Rattle.transfer_out.proofs.+written_length.Given as goal
+
+abbrev pub decreases-written_length : goal.decreases-written_length
+decreases-written_length l = nodes_at l.s.now l.q
+
+abbrev pub invariant-loop-p : goal.invariant-loop-p
+invariant-loop-p l = Writing (LengthOf l.initial.n l.n) l.s l.q l.p l.initial.n 917504
+
+abbrev pub decreases-loop-p : goal.decreases-loop-p
+decreases-loop-p l = chain 65536 l.s l.p
