@@ -6,9 +6,4 @@ pub mod Searching
 pub mod Filling
 pub mod Pasts
 pub mod Parting
-pub mod Elem
-pub mod Fronts
 pub mod Tops
-pub mod CallEndsBy
-pub mod CallTop
-pub mod Lending

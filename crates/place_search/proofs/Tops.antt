@@ -7,7 +7,7 @@ use native.Mathlib.Omega.{arith}
 use mathlib.Core.Bool.{Bool, true, false, not}
 use mathlib.Core.List.{List}
 use lib.Dec.{T as Holds}
-use lib.ListN.{get_or, take}
+use lib.ListN.{get_or, take, length, length-take}
 use lib.Seq.{get_or-take}
 use Rattle.place_search.specs.declared.Entry.{Entry}
 use Rattle.place_search.specs.Table.{nothing_is, ends_by, pick, top_of}
@@ -53,3 +53,7 @@ less h = omega arith
 
 pub bytes_fit : {j n : ℕ} → j < n → n * 12 < 2 ^ 63 → j * 12 < 2 ^ 64
 bytes_fit l g = omega arith
+
+-- the search in the first n entries, lent by themselves
+pub top_front : (n : ℕ) (xs : List Entry) (d : ℕ) → n ≤ length xs → top_of (take n xs) (length (take n xs)) d ≡ top_of xs n d
+top_front n xs d h = let l : length (take n xs) ≡ n = omega (arith, length-take {A = Entry}) in rw l (top_take n xs n d (omega arith))

@@ -1,0 +1,6 @@
+-- `place_arrays::with_element` meets its contract. Only what is to be done depends on r.
+use borrow.Author.Rules.{rules}
+use Rattle.place_arrays.proofs.with_element.Goals as goal
+
+pub returns : goal.returns
+returns c = cc

@@ -1,0 +1,19 @@
+-- What is below a node has fewer nodes than it: the measure is their number, and a node comes before what is below it.
+use Rattle.std.proofs.Common.{ℕ, ◌+◌, ◌*◌, ◌<◌, arith, rules}
+use Rattle.links.specs.Rows.{chain, nodes_at}
+use Rattle.support_memory.proofs.Staying.{unchanged_marked, usage_after}
+use Rattle.support_memory.proofs.Linked.{nodes_stay}
+use Rattle.support_memory.proofs.Forgetting.{Going, going_first, going_usage, going_fewer, going_within, going_element, going_next, going_falls, going_over, forgot_leaf, forgot_all}
+use Rattle.support_memory.proofs.+forget_below_forget_inner.Given as goal
+
+abbrev pub decreases-forget_below : goal.decreases-forget_below
+decreases-forget_below l = nodes_at l.s.now l.q * 2
+
+abbrev pub decreases-forget_inner : goal.decreases-forget_inner
+decreases-forget_inner l = nodes_at l.s.now l.q * 2 + 1
+
+abbrev pub invariant-forget_below-loop-e : goal.invariant-forget_below-loop-e
+invariant-forget_below-loop-e l = Going l.initial.s l.s l.q l.is_array l.e
+
+abbrev pub decreases-forget_below-loop-e : goal.decreases-forget_below-loop-e
+decreases-forget_below-loop-e l = chain 65536 l.initial.s l.e
