@@ -20,7 +20,7 @@ fn top(s: &[u8], q: usize) -> Node
 }
 
 // b is placed in a at d.
-#[cycle(merge_mem_merge_mem_at)]
+#[cycle(merging)]
 pub fn merge_mem_at(
     table: &[u8],
     places: &[u32],
@@ -58,7 +58,7 @@ pub fn merge_mem_at(
 }
 
 // The larger receives the other at 0; at equal sizes the stricter, and on a full tie the second.
-#[cycle(merge_mem_merge_mem_at)]
+#[cycle(merging)]
 pub fn merge_mem(
     table: &[u8],
     places: &[u32],

@@ -11,3 +11,4 @@ pub mod Remembering
 pub mod Whole
 pub mod Asking
 pub mod Sanity
+pub mod Measure

@@ -111,7 +111,7 @@ fn first_tests(table: &[u8], places: &[u32], ty: u32, at: u32, s: &[u8], q: usiz
 }
 
 // Does some component that contains the usage at record q support it at the remaining offset?
-#[cycle(any_component_supports_elements_supported_entries_supported_entry_supported_itself_supports_supports_inside_supports_or_recalls_supports_past_tests)]
+#[cycle(support)]
 fn any_component_supports(
     table: &[u8],
     places: &[u32],
@@ -148,7 +148,7 @@ fn any_component_supports(
 }
 
 // Is every entry of the map at record q supported, at the sum of both offsets?
-#[cycle(any_component_supports_elements_supported_entries_supported_entry_supported_itself_supports_supports_inside_supports_or_recalls_supports_past_tests)]
+#[cycle(support)]
 fn entries_supported(
     table: &[u8],
     places: &[u32],
@@ -175,7 +175,7 @@ fn entries_supported(
 }
 
 // By this whole layout if the sum is 0, else by a containing component.
-#[cycle(any_component_supports_elements_supported_entries_supported_entry_supported_itself_supports_supports_inside_supports_or_recalls_supports_past_tests)]
+#[cycle(support)]
 fn entry_supported(
     table: &[u8],
     places: &[u32],
@@ -199,7 +199,7 @@ fn entry_supported(
 }
 
 // Do elements of this stride, type and length support the array at record q? Its stride has to be theirs.
-#[cycle(any_component_supports_elements_supported_entries_supported_entry_supported_itself_supports_supports_inside_supports_or_recalls_supports_past_tests)]
+#[cycle(support)]
 fn elements_supported(
     table: &[u8],
     places: &[u32],
@@ -243,7 +243,7 @@ fn components_of(table: &[u8], places: &[u32], ty: u32) -> Components
 }
 
 // What is asked once no component supports the usage at record q, by its kind: only elements support an array.
-#[cycle(any_component_supports_elements_supported_entries_supported_entry_supported_itself_supports_supports_inside_supports_or_recalls_supports_past_tests)]
+#[cycle(support)]
 fn itself_supports(
     table: &[u8],
     places: &[u32],
@@ -276,7 +276,7 @@ fn itself_supports(
 }
 
 // What is left open: the components are asked, and then, of the whole layout, the usage itself.
-#[cycle(any_component_supports_elements_supported_entries_supported_entry_supported_itself_supports_supports_inside_supports_or_recalls_supports_past_tests)]
+#[cycle(support)]
 fn supports_past_tests(
     table: &[u8],
     places: &[u32],
@@ -315,7 +315,7 @@ fn recall_whole(ty: u32, at: u32, s: &[u8], q: usize, answers: &[u32], whole: bo
 
 // What is left open is recalled, or asked and remembered. All questions inside of others come here, so that the compiler makes one frame
 // of this function and those it goes through, and types nested deep take little stack.
-#[cycle(any_component_supports_elements_supported_entries_supported_entry_supported_itself_supports_supports_inside_supports_or_recalls_supports_past_tests)]
+#[cycle(support)]
 fn supports_or_recalls(
     table: &[u8],
     places: &[u32],
@@ -366,7 +366,7 @@ fn test_whole(
 }
 
 // A question inside of another, of the whole layout or of its components alone.
-#[cycle(any_component_supports_elements_supported_entries_supported_entry_supported_itself_supports_supports_inside_supports_or_recalls_supports_past_tests)]
+#[cycle(support)]
 fn supports_inside(
     table: &[u8],
     places: &[u32],

@@ -149,7 +149,7 @@ fn counted(in_turns: bool) -> usize {
 }
 
 // The usage at record q, which is inside of another, remembers nothing.
-#[cycle(forget_below_forget_inner)]
+#[cycle(forgetting)]
 fn forget_inner(s: &mut [u8], q: usize) -> usize
     requires { UsageAt s.old q }
     ensures { Forgotten s.old s.new q }
@@ -162,7 +162,7 @@ fn forget_inner(s: &mut [u8], q: usize) -> usize
 }
 
 // Record q has forgotten, and so does what is below it: its element, or its entries. They are added to the count.
-#[cycle(forget_below_forget_inner)]
+#[cycle(forgetting)]
 fn forget_below(s: &mut [u8], q: usize, count: usize) -> usize
     requires usage_at { UsageAt s.old q }
     requires bound { (3 ≤ command_in s.old q) × (tag_in s.old q ≡ 0) }

@@ -6,7 +6,7 @@ use Rattle.support.proofs.Types.{asks_concrete}
 use Rattle.support.proofs.supports_with_few.Goals as goal
 
 pub supports_or_recalls-requires : goal.supports_or_recalls-requires
-supports_or_recalls-requires c = let p = c.requires in (asks_concrete p.0 p.1.1.components, (blank_memory 512 p.1.0, λ e. p.1.1))
+supports_or_recalls-requires c = record { concrete_askable = asks_concrete c.requires.askable c.requires.left_open.components; memory = blank_memory 512 c.requires.blank; left_open = λ e. c.requires.left_open }
 
 pub returns : goal.returns
-returns c = let told = c.supports_or_recalls.ensures in (whole_says told.0, told.1.records)
+returns c = record { supports = whole_says c.supports_or_recalls.ensures.says; unchanged = c.supports_or_recalls.ensures.kept.records }

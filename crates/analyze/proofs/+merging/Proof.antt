@@ -11,17 +11,17 @@ use borrow.Fn.Kinds.{In}
 use borrow.Fn.PlainCycle.{Measures, is, falls, and}
 use Rattle.analyze.proofs.merge_mem.Reads as merge-mem
 use Rattle.analyze.proofs.merge_mem.Kinds as merge-mem-kinds
-use Rattle.analyze.proofs.+merge_mem_merge_mem_at.Lts-merge_mem as merge-mem-lts
+use Rattle.analyze.proofs.+merging.Lts-merge_mem as merge-mem-lts
 use Rattle.analyze.proofs.merge_mem_at.Reads as merge-mem-at'
 use Rattle.analyze.proofs.merge_mem_at.Kinds as merge-mem-at-kinds
-use Rattle.analyze.proofs.+merge_mem_merge_mem_at.Lts-merge_mem_at as merge-mem-at-lts
+use Rattle.analyze.proofs.+merging.Lts-merge_mem_at as merge-mem-at-lts
 use Rattle.analyze.proofs.top.Reads as top-reads
 use Rattle.place_rules.proofs.begin.Reads as begin-reads
 use Rattle.place_rules.proofs.settle.Reads as settle-reads
 use Rattle.place_rules.proofs.step.Reads as step-reads
 use Rattle.qptr.proofs.first_receives.Reads as first-receives-reads
-use Rattle.analyze.proofs.+merge_mem_merge_mem_at.{statement}
-use Rattle.analyze.proofs.+merge_mem_merge_mem_at.Tie.{close}
+use Rattle.analyze.proofs.+merging.{statement}
+use Rattle.analyze.proofs.+merging.Tie.{close}
 
 -- the nodes that are linked below two records
 abbrev μ-merge-mem : Measures 4 merge-mem-kinds.ps ℕ

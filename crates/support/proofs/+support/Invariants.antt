@@ -20,7 +20,8 @@ use Rattle.support.proofs.Itself.{by_entries, not_by_leaf, not_by_scalar, not_by
 use Rattle.support.proofs.Whole.{asks_either, not_parts, says_whole, whole_says, said_no, said_yes, said_open, recalls_no, recalls_yes, part_says, parts_refuse, itself_says}
 use Rattle.support.proofs.Staying.{supports_after, supports_before, entry_before, itself_before, open_after, asks_after, concrete_after}
 use Rattle.support.proofs.Remembering.{Turned, turned_none, turned_more, kept_none, kept_both, memory_after, memory_part, type_few, remembered_kept}
-use Rattle.support.proofs.+any_component_supports_elements_supported_entries_supported_entry_supported_itself_supports_supports_inside_supports_or_recalls_supports_past_tests.Given as goal
+use Rattle.support.proofs.Measure.{together}
+use Rattle.support.proofs.+support.Given as goal
 
 abbrev pub decreases-any_component_supports : goal.decreases-any_component_supports
 decreases-any_component_supports l = together l.ty l.s.now l.q

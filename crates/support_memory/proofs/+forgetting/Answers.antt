@@ -4,7 +4,7 @@ use Rattle.links.specs.Rows.{chain, nodes_at}
 use Rattle.support_memory.proofs.Staying.{unchanged_marked, usage_after}
 use Rattle.support_memory.proofs.Linked.{nodes_stay}
 use Rattle.support_memory.proofs.Forgetting.{Going, going_first, going_usage, going_fewer, going_within, going_element, going_next, going_falls, going_over, forgot_leaf, forgot_all}
-use Rattle.support_memory.proofs.+forget_below_forget_inner.Goals as goal
+use Rattle.support_memory.proofs.+forgetting.Goals as goal
 
 pub forget_below-loop-e-init : goal.forget_below-loop-e-init
 forget_below-loop-e-init t c = search (going_first, rules)

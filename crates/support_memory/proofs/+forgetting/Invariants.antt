@@ -4,7 +4,7 @@ use Rattle.links.specs.Rows.{chain, nodes_at}
 use Rattle.support_memory.proofs.Staying.{unchanged_marked, usage_after}
 use Rattle.support_memory.proofs.Linked.{nodes_stay}
 use Rattle.support_memory.proofs.Forgetting.{Going, going_first, going_usage, going_fewer, going_within, going_element, going_next, going_falls, going_over, forgot_leaf, forgot_all}
-use Rattle.support_memory.proofs.+forget_below_forget_inner.Given as goal
+use Rattle.support_memory.proofs.+forgetting.Given as goal
 
 abbrev pub decreases-forget_below : goal.decreases-forget_below
 decreases-forget_below l = nodes_at l.s.now l.q * 2
