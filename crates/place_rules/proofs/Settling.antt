@@ -7,7 +7,7 @@ use Rattle.definitions.specs.Usage.{Usage}
 use Rattle.definitions.specs.Stream.{bytes}
 use Rattle.definitions.specs.Table.{Setting}
 use Rattle.definitions.specs.Place.{Result, refused, done, of_entry}
-use Rattle.definitions.proofs.Reports.{of_entry}
+use Rattle.definitions.proofs.Reports.{of_entry as of_entry_lem}
 use Rattle.report.specs.Emitted.{Emitted}
 use Rattle.report.proofs.Emitting.{emitted_back}
 use Rattle.place_states.specs.Calls.{Ground}
@@ -54,9 +54,9 @@ goes_on (element z n) {w} {g} {w'} {rep} {r} G brief near em eh U =
 goes_on (joins z low mid high d) {o} {w} {w'} G brief near em eh U = entry_report w o w' (omega (arith, G.short, G.room)) em eh G.report U
 
 marked_short : (y : Beyond) (o : ℕ) (w' : List ℕ) (p' : ℕ) → length w' ≤ 14 * p' - 5 → length (marked y o w') ≤ 14 * p'
-marked_short (entries es) o w' p' h = of_entry o w' p' h
+marked_short (entries es) o w' p' h = of_entry_lem o w' p' h
 marked_short (element z n) o w' p' h = omega arith
-marked_short (joins z low mid high d) o w' p' h = of_entry o w' p' h
+marked_short (joins z low mid high d) o w' p' h = of_entry_lem o w' p' h
 
 -- what is outside of the pair is outside of what it has become
 outside_held : (k : ℕ) (y : Beyond) (s : List ℕ) (a : ℕ) (st : State) (r : Outcome) (pairings at : ℕ) (rank : ℕ → ℕ) (lo c e hi : ℕ) → Outside k y s a st rank lo c e hi
