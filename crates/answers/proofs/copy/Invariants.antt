@@ -1,0 +1,15 @@
+-- `copy` meets its contract. The loop's invariant: the first i bytes are copied, and the others are as they were.
+use Prim.Native.Nat.{◌-◌, ◌≤◌}
+use mathlib.Core.Path.{◌≡◌, refl, ◌∙◌}
+use native.Mathlib.Omega.{arith}
+use borrow.Author.Rules.{rules}
+use lib.ListN.{length, length-set}
+use lib.Seq.{paste}
+use Rattle.answers.proofs.Copying.{copied_more, copied_all}
+use Rattle.answers.proofs.copy.Given as goal
+
+abbrev pub invariant-loop-i : goal.invariant-loop-i
+invariant-loop-i l = (l.to ≡ paste l.initial.to 0 l.from l.i) × (length l.to ≡ length l.initial.to) × (l.i ≤ length l.from)
+
+abbrev pub decreases-loop-i : goal.decreases-loop-i
+decreases-loop-i l = length l.from - l.i
