@@ -1,0 +1,7 @@
+-- `merge` meets its contract: the places that it lends have room, and the served call gives what it gives.
+use borrow.Author.Rules.{rules}
+use Rattle.calls.proofs.Lending.{few_lent}
+use Rattle.calls.proofs.merge.Goals as goal
+
+pub merge-requires : goal.merge-requires
+merge-requires c = search (few_lent, rules)
