@@ -1,0 +1,14 @@
+-- `only` meets its contract. The loop's invariant: the bytes up to i are that byte.
+use Prim.Native.Nat.{ℕ, ◌-◌}
+use mathlib.Core.Path.{◌≡◌}
+use native.Mathlib.Omega.{arith}
+use borrow.Author.Rules.{rules}
+use lib.ListN.{length}
+use Rattle.replaying.proofs.Filling.{Filled, filled_none, filled_more, filled_all}
+use Rattle.replaying.proofs.only.Given as goal
+
+abbrev pub invariant-loop-i : goal.invariant-loop-i
+invariant-loop-i l = Filled l.buf l.byte l.i
+
+abbrev pub decreases-loop-i : goal.decreases-loop-i
+decreases-loop-i l = length l.buf - l.i
