@@ -69,8 +69,6 @@ fn main() {
     }
     if cfg!(feature = "library") {
         archive::link("receiver_part", "..");
-        // What it hands to C's `pwrite` goes to `__wrap_pwrite` of `src/part.rs`.
-        println!("cargo::rustc-link-arg=-Wl,--wrap=pwrite");
     }
 }
 

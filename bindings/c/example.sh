@@ -16,7 +16,7 @@ if [ ! -f "$folder/libexports.a" ]; then
     echo "example.sh: the library is not built, and the Rattle toolchain's command rt is not on the PATH" >&2
     exit 2
   fi
-  (cd ../.. && rt staticlib exports)
+  bash ../../staticlib.sh exports
 fi
 
 built=$(mktemp -d)

@@ -36,30 +36,30 @@ fn own(name: &str, file: &str, root: &str) -> PathBuf {
         make(&root, name);
     }
     if !folder.join(file).is_file() {
-        fail(&format!("`rt staticlib {name}` succeeded and left no {file}"))
+        fail(&format!("`bash staticlib.sh {name}` succeeded and left no {file}"))
     }
     folder
 }
 
-/// Has the toolchain prove the library, which `check` does on all cores, and write it.
+/// Has the toolchain prove the library and write it.
 fn make(root: &Path, name: &str) {
-    rt(root, "check", name);
-    rt(root, "staticlib", name);
-}
-
-fn rt(root: &Path, command: &str, name: &str) {
-    let output = match Command::new("rt").args([command, name]).current_dir(root).output() {
+    let output = Command::new("bash").args(["staticlib.sh", name]).current_dir(root).output();
+    let hint = "put `rt` on the PATH, or set PAPERSLOE_LIB_DIR to the folder of";
+    let output = match output {
         Ok(output) => output,
         Err(error) => fail(&format!(
-            "the static library `{name}` is not built, and the Rattle toolchain's command `rt` \
-             cannot be run to build it ({error}): put `rt` on the PATH, or set PAPERSLOE_LIB_DIR \
-             to the folder of lib{name}.a"
+            "the static library `{name}` is not built, and bash, which the Rattle toolchain is \
+             started with, cannot be run ({error}): {hint} lib{name}.a"
         )),
     };
     if !output.status.success() {
         let said = String::from_utf8_lossy(&output.stderr);
         let last = said.lines().rev().find(|line| !line.trim().is_empty()).unwrap_or("no message");
-        fail(&format!("`rt {command} {name}` failed ({}): {last}", output.status))
+        fail(&format!(
+            "the static library `{name}` is not built, and `bash staticlib.sh {name}` failed ({}): \
+             {last}: {hint} lib{name}.a",
+            output.status
+        ))
     }
 }
 

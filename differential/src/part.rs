@@ -1,12 +1,10 @@
 //! The part that `receiver` itself hands back, told by where it lies and how long it is.
 //!
 //! No exported function gives a reference, so the library tells a number. The crate `receiver_part`
-//! calls `receiver` and hands its part to C's `pwrite`, in whose place the linker puts the function
-//! below (`build.rs`). No file is touched.
+//! calls `receiver` and writes its part, a pointer and a length, where its caller says.
 
 use crate::library::Library;
 use crate::side::{Answer, Call, CallKind, Side};
-use std::cell::Cell;
 use std::ptr;
 
 /// The library, but of receiver the part.
@@ -46,21 +44,23 @@ pub fn told(part: *const [u8], first: &[u8], second: &[u8]) -> Answer {
 /// # Panics
 /// If nothing was handed over.
 pub fn handed(first: &[u8], second: &[u8]) -> *const [u8] {
-    HANDED.set(None);
-    // SAFETY: each pointer comes with the length of its slice. The library keeps neither.
-    unsafe { qptr_receiver_part(first.as_ptr(), first.len(), second.as_ptr(), second.len()) };
-    HANDED.get().expect("`pwrite` is this file's")
+    let mut part = Handed { bytes: UNSET.as_ptr(), length: UNSET.len() };
+    // SAFETY: each pointer comes with the length of its slice, the part's too. The library keeps none.
+    unsafe {
+        qptr_receiver_part(first.as_ptr(), first.len(), second.as_ptr(), second.len(), &mut part);
+    }
+    assert_ne!(part.bytes, UNSET.as_ptr(), "`receiver_part` writes the part");
+    ptr::slice_from_raw_parts(part.bytes, part.length)
 }
 
-thread_local! {
-    static HANDED: Cell<Option<*const [u8]>> = const { Cell::new(None) };
-}
+/// What stands in the place before the part is written to it: no part of any stream.
+static UNSET: [u8; 1] = [0];
 
-/// Stands where `receiver_part` calls `pwrite`. It says that nothing was written.
-#[unsafe(no_mangle)]
-extern "C" fn __wrap_pwrite(_: i32, bytes: *const u8, length: usize, _: i64) -> isize {
-    HANDED.set(Some(ptr::slice_from_raw_parts(bytes, length)));
-    -1
+/// A part as `receiver_part` writes it.
+#[repr(C)]
+struct Handed {
+    bytes: *const u8,
+    length: usize,
 }
 
 unsafe extern "C" {
@@ -69,5 +69,6 @@ unsafe extern "C" {
         first_len: usize,
         second: *const u8,
         second_len: usize,
-    ) -> isize;
+        part: *mut Handed,
+    );
 }

@@ -26,24 +26,20 @@ const SOURCES: [Source; 3] = [Source::Sound, Source::Unsound, Source::Damaged];
 /// What each file of theorems begins with.
 const HEADER: &str = "\
 -- Calls with their answers: the definitions compute what the Rust says. Written by a program.
-use Prim.Native.Nat.{ℕ}
-use mathlib.Core.Path.{_≡_, refl}
-use mathlib.Core.Bool.{Bool, true, false}
-use mathlib.Core.List.{List, [], _∷_, _++_}
-use lib.ListN.{replicate}
-use Rattle·definitions.specs.If.{if_then_else_}
-use Rattle·definitions.specs.Command.{commandAt}
-use Rattle·definitions.specs.Stream.{readNode, readNodeIn, topOf, memoryOf, listOf}
-use Rattle·definitions.specs.Table.{tableOf}
-use Rattle·definitions.specs.Support.{supports, supportsIn}
-use Rattle·definitions.specs.Place.{place, placeIn, mergeMem, fold}
-use Rattle·definitions.specs.Calls.{Answer, Written, partOf, receiverOf, receiverCall, supportsCall, placeCall, mergeCall, foldCall, soundCall}
+use Rattle.std.specs.Prelude.{◌≡◌, refl, ℕ, Bool, true, false, List, [], ◌∷◌, ◌++◌, replicate}
+use Rattle.definitions.specs.If.{if◌then◌else◌}
+use Rattle.definitions.specs.Command.{command_at}
+use Rattle.definitions.specs.Stream.{read_node, read_node_in, top_of, memory_of, list_of}
+use Rattle.definitions.specs.Table.{table_of}
+use Rattle.definitions.specs.Support.{supports, supports_in}
+use Rattle.definitions.specs.Place.{place, place_in, merge_mem, fold}
+use Rattle.definitions.specs.Calls.{Answer, Written, part_of, receiver_of, receiver_call, supports_call, place_call, merge_call, fold_call, sound_call}
 ";
 
 /// All definitions that stay folded unless a theorem names them.
-const UNFOLDED: &str = "if_then_else_ commandAt readNode readNodeIn topOf memoryOf listOf tableOf \
-    supports supportsIn place placeIn mergeMem fold receiverOf receiverCall supportsCall placeCall \
-    mergeCall foldCall soundCall";
+const UNFOLDED: &str = "if◌then◌else◌ command_at read_node read_node_in top_of memory_of list_of table_of \
+    supports supports_in place place_in merge_mem fold receiver_of receiver_call supports_call place_call \
+    merge_call fold_call sound_call";
 
 /// Theorems to be written, and how many calls were left out.
 #[derive(Default)]
@@ -81,7 +77,7 @@ impl Theorems {
         for part in ["src", "specs", "proofs"] {
             fs::create_dir(folder.join(part))?;
         }
-        fs::write(folder.join("src/lib.rt"), "// Theorems alone, in specs/.\n")?;
+        fs::write(folder.join("src/lib.rt"), "// Theorems alone, in specs/.\n#![tactic(auto)]\n")?;
         fs::write(folder.join("proofs/Lib.antt"), "-- `refl` proves all of specs/.\n")?;
         let mut modules = String::from("-- What the Rust says of the definitions.\n");
         for (index, texts) in self.texts.chunks(ROWS_IN_FILE).enumerate() {
@@ -137,7 +133,7 @@ fn equation(Recorded { call, answer }: &Recorded) -> String {
         true => ("Written", written(answer)),
         false => ("Answer", numbers(answer)),
     };
-    format!("_≡_ {{A = {result}}} ({kind}Call {given}) {told}")
+    format!("◌≡◌ {{A = {result}}} ({kind}_call {given}) {told}")
 }
 
 /// The receiving stream, and which of the two it is: they may have the same bytes.
@@ -151,7 +147,7 @@ fn receiver_equation(first: &str, second: &str, number: u64) -> String {
     let told = format!("({part} ∷ {which} ∷ [])");
     let streams = format!("{first} {second}");
     format!(
-        "_≡_ {{A = List (List ℕ)}} (receiverCall {streams} ∷ partOf (receiverOf {streams}) {one} {two} ∷ []) {told}"
+        "◌≡◌ {{A = List (List ℕ)}} (receiver_call {streams} ∷ part_of (receiver_of {streams}) {one} {two} ∷ []) {told}"
     )
 }
 

@@ -97,6 +97,6 @@ fn theorems_say_which_stream_receives() {
     theorems.add("same", &recorded);
     let specs = specs_of(&theorems, "which_stream");
     assert_eq!(recorded[0].answer.number, 2);
-    assert!(specs.contains("same0 : _≡_ {A = List (List ℕ)} (receiverCall (10 ∷ "), "{specs}");
+    assert!(specs.contains("same0 : ◌≡◌ {A = List (List ℕ)} (receiver_call (10 ∷ "), "{specs}");
     assert!(specs.contains(" ∷ []) ∷ (2 ∷ []) ∷ [])\nunfolding "), "{specs}");
 }

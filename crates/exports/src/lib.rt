@@ -1,4 +1,4 @@
-// The calls for C and Rust. A slice is passed as a pointer and a length.
+// The calls for C and Rust, with their answers as numbers. `exports_c` gives them to C under the same names.
 #![tactic(auto)]
 
 ghost use Rattle.std.specs.Prelude.{◌≡◌, length};
@@ -21,8 +21,7 @@ fn number(r: Received) -> u32
 }
 
 // 0 nobody, 1 the first, 2 the second.
-#[unsafe(no_mangle)]
-pub extern "C" fn qptr_receiver(first: &[u8], second: &[u8]) -> u32
+pub fn qptr_receiver(first: &[u8], second: &[u8]) -> u32
     ensures { result ≡ number_of (answered (receiver_of first.now second.now)) }
 {
     number(calls::receiving(first, second))
@@ -47,16 +46,14 @@ fn numbers(a: Answer) -> [u64; 5]
 }
 
 // The answer: number, yes or no, usage length, report length, pairings.
-#[unsafe(no_mangle)]
-pub extern "C" fn qptr_sound(table: &[u8], work: &mut [u8], stream: &[u8], answer: &mut [u64; 5])
+pub fn qptr_sound(table: &[u8], work: &mut [u8], stream: &[u8], answer: &mut [u64; 5])
     ensures { answer.new ≡ numbers_of (sound_call table.now (length work.old) stream.now) }
 {
     *answer = numbers(calls::sound(table, work, stream));
 }
 
 // The answer as of `qptr_sound`.
-#[unsafe(no_mangle)]
-pub extern "C" fn qptr_supports(
+pub fn qptr_supports(
     table: &[u8],
     work: &mut [u8],
     ty: u32,
@@ -70,8 +67,7 @@ pub extern "C" fn qptr_supports(
 }
 
 // The answer, and both buffers as they are left; so too of the next two.
-#[unsafe(no_mangle)]
-pub extern "C" fn qptr_place(
+pub fn qptr_place(
     table: &[u8],
     work: &mut [u8],
     first: &[u8],
@@ -87,8 +83,7 @@ pub extern "C" fn qptr_place(
 }
 
 // Two tops.
-#[unsafe(no_mangle)]
-pub extern "C" fn qptr_merge(
+pub fn qptr_merge(
     table: &[u8],
     work: &mut [u8],
     first: &[u8],
@@ -103,8 +98,7 @@ pub extern "C" fn qptr_merge(
 }
 
 // A list; with what is promised of sound nodes.
-#[unsafe(no_mangle)]
-pub extern "C" fn qptr_fold(
+pub fn qptr_fold(
     table: &[u8],
     work: &mut [u8],
     list: &[u8],

@@ -1,14 +1,19 @@
 // The part that `receiver` hands back, given to C, which sees where it lies and how long it is. For the comparison alone.
 #![tactic(auto)]
 
-ghost use Rattle.std.specs.Prelude.{length};
-ghost use Rattle.libc.specs.Io.{Moved};
+ghost use Rattle.std.specs.Prelude.{◌≡◌};
 ghost use Rattle.definitions.specs.Calls.{receiver_call};
 
-// No file has the descriptor -1: nothing is written where `pwrite` is C's own.
+// A part of a stream. To C it is a pointer and a length.
+#[repr(C)]
+pub struct Part<'a> {
+    pub bytes: &'a [u8],
+}
+
+// No exported function returns a reference, so the part goes into a place that the caller lends.
 #[unsafe(no_mangle)]
-pub extern "C" fn qptr_receiver_part<'a>(first: &'a [u8], second: &'a [u8]) -> isize
-    ensures { Moved (length (receiver_call first.now second.now)) result }
+pub extern "C" fn qptr_receiver_part<'a>(first: &'a [u8], second: &'a [u8], part: &mut Part<'a>)
+    ensures { part.new.bytes.now ≡ receiver_call first.now second.now }
 {
-    libc::pwrite(-1, calls::receiver(first, second), 0)
+    part.bytes = calls::receiver(first, second);
 }

@@ -4,9 +4,11 @@
 ghost use Rattle.replaying.specs.Parts.{Single};
 ghost use Rattle.replay.specs.Within.{Within};
 
-use libc::STDOUT_FILENO;
 use numbers::get32;
 use replaying::Ran;
+use std::fs::File;
+use std::io;
+use std::io::{Print, Read};
 
 #[derive(Clone, Copy)]
 enum Number {
@@ -33,62 +35,63 @@ enum Replayed {
     },
 }
 
-fn word(fd: i32) -> Number {
+// A number of four bytes. A read that fails is the file's end, here and below.
+fn word(file: &mut File) -> Number {
     let mut four = [0u8; 4];
-    if io::read_full(fd, &mut four) < 4 {
+    if file.read_exact(&mut four).is_err() {
         return Number::Missing;
     }
     Number::Is(get32(&four, 0))
 }
 
-fn fetch(fd: i32, buf: &mut [u8]) -> Fetched
+fn fetch(file: &mut File, buf: &mut [u8]) -> Fetched
     ensures { Within buf.new result }
 {
-    let Number::Is(length) = word(fd) else {
+    let Number::Is(length) = word(file) else {
         return Fetched::Broken;
     };
     let n = length as usize;
     if buf.len() < n {
         return Fetched::Broken;
     }
-    if io::read_full(fd, &mut buf[..n]) < n {
+    if file.read_exact(&mut buf[..n]).is_err() {
         return Fetched::Broken;
     }
     Fetched::Record(n)
 }
 
-fn turn(fd: i32) -> Ran
+fn turn(file: &mut File) -> Ran
     ensures { Single result }
 {
-    let mut buf = io::large_buffer();
-    let Fetched::Record(n) = fetch(fd, &mut buf) else {
+    let mut buf = [0u8; 65536];
+    let Fetched::Record(n) = fetch(file, &mut buf) else {
         return Ran::Broken;
     };
     replaying::run(&buf[..n])
 }
 
 // Has all been read?
-fn at_end(fd: i32) -> bool {
+fn at_end(file: &mut File) -> bool {
     let mut one = [0u8; 1];
-    io::read_full(fd, &mut one) == 0
+    file.read_exact(&mut one).is_err()
 }
 
-fn replay(fd: i32) -> Replayed {
-    let Number::Is(records) = word(fd) else {
+fn replay(file: &mut File) -> Replayed {
+    let Number::Is(records) = word(file) else {
         return Replayed::Broken { record: 0 };
     };
     let mut compared: u32 = 0;
     let mut different: u32 = 0;
     let mut i: u32 = 0;
     while i < records {
-        let Ran::Record(c) = turn(fd) else {
+        let Ran::Record(c) = turn(file) else {
             return Replayed::Broken { record: i };
         };
         compared += c.compared;
         different += c.different;
         i += 1;
     }
-    if !at_end(fd) {
+    if !at_end(file) {
         return Replayed::Broken { record: i };
     }
     Replayed::Whole {
@@ -98,30 +101,27 @@ fn replay(fd: i32) -> Replayed {
     }
 }
 
-fn print(n: u32, text: &[u8]) {
-    io::print_decimal(STDOUT_FILENO, n as u64);
-    io::write_all(STDOUT_FILENO, text);
+fn print(rt: &impl Print, n: u32, text: &str) -> io::Result<()> {
+    print!(rt; "{n}{text}")
 }
 
-fn main() {
-    let path = b"answers.bin";
-    let fd = os::open_read(path);
-    if fd < 0 {
-        os::fail(path);
-        return;
-    }
-    io::write_all(STDOUT_FILENO, b"replay: ");
-    match replay(fd) {
-        Replayed::Broken { record } => print(record, b" records, then a broken one\n"),
+fn main(rt: HostRuntime) -> io::Result<()> {
+    let path = "answers.bin";
+    let mut file = match File::open(&rt, path) {
+        Ok(file) => file,
+        Err(error) => return eprintln!(rt; "{path}: {error}"),
+    };
+    print!(rt; "replay: ")?;
+    match replay(&mut file) {
+        Replayed::Broken { record } => print(&rt, record, " records, then a broken one\n"),
         Replayed::Whole {
             records,
             compared,
             different,
         } => {
-            print(records, b" records, ");
-            print(compared, b" compared, ");
-            print(different, b" different\n");
+            print(&rt, records, " records, ")?;
+            print(&rt, compared, " compared, ")?;
+            print(&rt, different, " different\n")
         }
     }
-    libc::close(fd);
 }

@@ -1,0 +1,9 @@
+-- What was read lies within the buffer, and each read that gives something leaves less to fill.
+use Rattle.std.proofs.Common.{length, ◌-◌, ◌≤◌}
+use Rattle.merge.proofs.read_full.Given as goal
+
+abbrev pub invariant-loop-done : goal.invariant-loop-done
+invariant-loop-done g l = l.done ≤ length l.buf
+
+abbrev pub decreases-loop-done : goal.decreases-loop-done
+decreases-loop-done g l = length l.buf - l.done
