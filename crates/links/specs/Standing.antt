@@ -3,7 +3,7 @@
 -- lowest, and the entries of a map lie in intervals one above the other. So what is apart is apart by arithmetic.
 -- Assumes nothing.
 use Rattle.std.specs.Prelude.{ℕ, zero, suc, ◌+◌, ◌*◌, ◌≤◌, ◌<◌, ◌≡◌, List, length}
-use Rattle.definitions.specs.Usage.{Size, Usage, unused, leaf, map, array, Entries, none, entry, size, count}
+use Rattle.definitions.specs.Usage.{Size, Usage, unused, leaf, map, array, Entries, none, entry, count}
 use Rattle.definitions.specs.Command.{head_of}
 use Rattle.records.specs.Records.{command_in, next_in, child_in, size_in, argument_in, offset_in}
 

@@ -5,7 +5,7 @@ use mathlib.Core.Path.{◌≡◌, refl, ap, ◌∙◌}
 use mathlib.Core.List.{List, [], ◌∷◌, ◌++◌, append_assoc}
 use native.Mathlib.Omega.{arith}
 use lib.ListN.{length, get_or, drop}
-use Rattle.definitions.specs.Usage.{Size, Usage, size}
+use Rattle.definitions.specs.Usage.{Size, Usage}
 use Rattle.definitions.specs.Command.{Command, command_at, head_of, size_width, argument_width}
 use Rattle.definitions.specs.Stream.{bytes, write_size, write_head}
 use Rattle.definitions.proofs.Numbers.{bytes_length}

@@ -1,9 +1,8 @@
 -- The invariant: n records stand where the places say, and the rest of the table is to be read behind them.
 use Prim.Native.Nat.{◌-◌}
-use mathlib.Core.Path.{◌≡◌, refl}
-use lib.ListN.{length, length-set}
-use borrow.Author.Rules.{rules}
-use Rattle.layout.proofs.Acceptance.{whole_record, refuses, accepts, Reading, no_count, many_records, first_record, no_record, not_admitted, next_record, left_over, found}
+use mathlib.Core.Path.{◌≡◌}
+use lib.ListN.{length}
+use Rattle.layout.proofs.Acceptance.{Reading}
 use Rattle.layout.proofs.accept.Given as goal
 
 abbrev pub invariant-loop-n : goal.invariant-loop-n

@@ -1,6 +1,5 @@
 -- Elements that are cut off, or of stride 0, are no record; others end after 21 bytes.
 use native.Mathlib.Omega.{arith}
-use borrow.Author.Rules.{rules}
 use Rattle.layout.proofs.View.{refused}
 use Rattle.layout.proofs.Ends.{elements_ends}
 use Rattle.layout.proofs.elements_end.Goals as goal

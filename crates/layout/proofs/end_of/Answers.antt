@@ -1,6 +1,5 @@
 -- The sum, or the cap where the sum is past it, is the smaller of the two.
 use native.Mathlib.Omega.{arith}
-use borrow.Author.Rules.{rules}
 use Rattle.layout.proofs.end_of.Goals as goal
 
 pub returns-then-start-n : goal.returns-then-start-n

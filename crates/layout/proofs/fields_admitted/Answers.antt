@@ -1,10 +1,10 @@
 -- The invariant: what is left to be said of all fields is what is to be said of those from i on.
-use Prim.Native.Nat.{◌+◌, ◌-◌, ◌≤◌}
+use Prim.Native.Nat.{◌+◌, ◌≤◌}
 use native.Mathlib.Omega.{arith}
 use borrow.Author.Rules.{rules}
 use Rattle.definitions.specs.Limits.{max32}
 use Rattle.layout.proofs.Types.{concrete_type}
-use Rattle.layout.proofs.FieldRules.{Remaining, none_yet, all_admitted, no_component, too_early, past_32_bits, last_field, next_field}
+use Rattle.layout.proofs.FieldRules.{none_yet, all_admitted, no_component, too_early, past_32_bits, last_field, next_field}
 use Rattle.layout.proofs.fields_admitted.Goals as goal
 
 pub loop-i-init : goal.loop-i-init

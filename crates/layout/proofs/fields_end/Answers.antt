@@ -1,6 +1,5 @@
 -- Fields that are cut off, or more than 64, are no record; others end after the last of them.
 use native.Mathlib.Omega.{arith}
-use borrow.Author.Rules.{rules}
 use Rattle.layout.proofs.View.{refused}
 use Rattle.layout.proofs.Ends.{fields_end}
 use Rattle.layout.proofs.fields_end.Goals as goal

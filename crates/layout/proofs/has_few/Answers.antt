@@ -1,7 +1,6 @@
 -- The number that is tested is the one that the first two bytes say.
 use mathlib.Core.Path.{refl}
 use native.Mathlib.Omega.{arith}
-use borrow.Author.Rules.{rules}
 use borrow.Author.Tests.{leb-true}
 use Rattle.layout.proofs.Clash.{clash}
 use Rattle.layout.proofs.has_few.Goals as goal

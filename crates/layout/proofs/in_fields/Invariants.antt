@@ -1,7 +1,6 @@
 -- The invariant: no field from `from` to i contains the range, so the list is that from i on.
 use Prim.Native.Nat.{◌-◌}
-use borrow.Author.Rules.{rules}
-use Rattle.layout.proofs.InFields.{Seeking, field_type, from_here, none_contains, next_contains, this_contains}
+use Rattle.layout.proofs.InFields.{Seeking}
 use Rattle.layout.proofs.in_fields.Given as goal
 
 abbrev pub invariant-loop-i : goal.invariant-loop-i

@@ -1,6 +1,5 @@
 -- Each kind has its length; any other byte is no kind.
 use native.Mathlib.Omega.{arith}
-use borrow.Author.Rules.{rules}
 use Rattle.layout.proofs.View.{refused}
 use Rattle.layout.proofs.Ends.{handle_ends, failed_ends, scalar_ends}
 use Rattle.layout.proofs.record_end.Goals as goal

@@ -1,7 +1,6 @@
 -- `numbers::number` meets its contract. A width is 4, 2 or 0, and of each the number is a sum of so many bytes.
 use mathlib.Core.Path.{◌≡◌}
 use native.Mathlib.Omega.{arith}
-use borrow.Author.Rules.{rules}
 use Rattle.numbers.specs.Words.{number_at}
 use Rattle.numbers.proofs.number.Goals as goal
 

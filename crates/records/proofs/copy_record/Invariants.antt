@@ -1,10 +1,8 @@
 -- `records::copy_record` meets its contract: each turn copies one byte more.
 use Prim.Native.Nat.{◌-◌, ◌≤◌}
-use mathlib.Core.Path.{◌≡◌, refl}
-use native.Mathlib.Omega.{arith}
+use mathlib.Core.Path.{◌≡◌}
 use lib.ListN.{length}
-use borrow.Author.Rules.{rules}
-use Rattle.records.proofs.Copying.{Copying, copying_none, copying_more, set_copy}
+use Rattle.records.proofs.Copying.{Copying}
 use Rattle.records.proofs.copy_record.Given as goal
 
 abbrev pub invariant-loop-i : goal.invariant-loop-i

@@ -1,6 +1,5 @@
 -- `records::get16` meets its contract. The number is a sum of two bytes.
 use native.Mathlib.Omega.{arith}
-use borrow.Author.Rules.{rules}
 use Rattle.numbers.specs.Words.{number_at}
 use Rattle.records.proofs.get16.Goals as goal
 

@@ -2,7 +2,6 @@
 use native.Mathlib.Numerals.{add-one}
 use native.Mathlib.Omega.{arith}
 use lib.ListN.{length-set}
-use borrow.Author.Rules.{rules}
 use Rattle.numbers.specs.Words.{put_at}
 use Rattle.records.proofs.put16.Goals as goal
 

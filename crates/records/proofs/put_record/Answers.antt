@@ -1,5 +1,4 @@
 -- `records::put_record` meets its contract. Each store adds fields and keeps the others.
-use borrow.Author.Rules.{rules}
 use Rattle.records.proofs.Writing.{set_alone}
 use Rattle.records.proofs.put_record.Goals as goal
 

@@ -1,5 +1,4 @@
 -- `report::of_entry` meets its contract. The offset stands behind the byte.
-use Rattle.std.proofs.Common.{rules}
 use Rattle.report.proofs.Emitting.{emitted_after}
 use Rattle.report.proofs.of_entry.Goals as goal
 

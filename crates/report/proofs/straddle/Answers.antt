@@ -1,5 +1,4 @@
 -- `report::straddle` meets its contract. The two offsets stand behind the byte.
-use Rattle.std.proofs.Common.{rules}
 use Rattle.report.proofs.Emitting.{emitted_after}
 use Rattle.report.proofs.straddle.Goals as goal
 

@@ -1,5 +1,4 @@
 -- `report::word` meets its contract. The four bytes stand behind one another.
-use Rattle.std.proofs.Common.{rules}
 use Rattle.report.proofs.Emitting.{emitted_after}
 use Rattle.report.proofs.word.Goals as goal
 

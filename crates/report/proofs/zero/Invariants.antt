@@ -1,6 +1,6 @@
 -- `report::zero` meets its contract. The loop's invariant: the bytes up to i are zeros.
-use Rattle.std.proofs.Common.{◌-◌, length, rules}
-use Rattle.report.proofs.Zeroing.{Zeroed, zeroed_none, zeroed_more, zeroed_all}
+use Rattle.std.proofs.Common.{◌-◌, length}
+use Rattle.report.proofs.Zeroing.{Zeroed}
 use Rattle.report.proofs.zero.Given as goal
 
 abbrev pub invariant-loop-i : goal.invariant-loop-i

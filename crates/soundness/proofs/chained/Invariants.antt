@@ -1,9 +1,7 @@
 -- `soundness::chained` meets its contract. The loop's invariant: of the entries that are left, from the place where the last one ended, the answer is the same.
 use Prim.Native.Nat.{◌-◌}
 use Rattle.qptr.specs.Values.{size_of}
-use Rattle.soundness.proofs.Entry.{follows_in32}
-use Rattle.soundness.proofs.Chaining.{Chaining, chaining_all, chaining_stands, chaining_done, chaining_broken, chaining_next}
-use borrow.Author.Rules.{rules}
+use Rattle.soundness.proofs.Chaining.{Chaining}
 use Rattle.soundness.proofs.chained.Given as goal
 
 abbrev pub invariant-loop-q : goal.invariant-loop-q

@@ -1,6 +1,5 @@
 -- `soundness::element` meets its contract. The tests are the definition's.
 use Rattle.soundness.proofs.Entry.{fills_nothing, fills_dynamic, fills_fixed}
-use borrow.Author.Rules.{rules}
 use Rattle.soundness.proofs.element.Goals as goal
 
 pub returns-then-stride-eq0 : goal.returns-then-stride-eq0

@@ -2,7 +2,6 @@
 use Prim.Native.Nat.{◌+◌}
 use native.Mathlib.Omega.{arith}
 use borrow.Author.Tests.{ltb-false}
-use borrow.Author.Rules.{rules}
 use Rattle.soundness.proofs.end.Goals as goal
 
 pub overflow_add-result : goal.overflow_add-result

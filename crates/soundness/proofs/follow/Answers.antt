@@ -1,6 +1,5 @@
 -- `soundness::follow` meets its contract. It asks in the definition's order, and each test that fails decides.
 use Rattle.soundness.proofs.Entry.{starts_before, follows_dynamic, follows_empty, follows_fixed}
-use borrow.Author.Rules.{rules}
 use Rattle.soundness.proofs.follow.Goals as goal
 
 pub returns-then-lt : goal.returns-then-lt

@@ -2,7 +2,6 @@
 use mathlib.Core.Path.{refl}
 use native.Mathlib.Omega.{arith}
 use borrow.Author.Tests.{le-ltb}
-use borrow.Author.Rules.{rules}
 use Rattle.soundness.proofs.some.Goals as goal
 
 pub returns-in-Fixed : goal.returns-in-Fixed

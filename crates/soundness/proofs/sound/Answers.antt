@@ -1,6 +1,5 @@
 -- `soundness::sound` meets its contract. The loop's invariant: all that is left from record i on is sound exactly if the usage is.
-use Prim.Native.Nat.{◌-◌}
-use Rattle.soundness.proofs.Every.{Every, every_one, every_stands, every_done, every_broken, every_next}
+use Rattle.soundness.proofs.Every.{every_one, every_stands, every_done, every_broken, every_next}
 use borrow.Author.Rules.{rules}
 use Rattle.soundness.proofs.sound.Goals as goal
 

@@ -1,7 +1,6 @@
 -- `soundness::sound` meets its contract. The loop's invariant: all that is left from record i on is sound exactly if the usage is.
 use Prim.Native.Nat.{◌-◌}
-use Rattle.soundness.proofs.Every.{Every, every_one, every_stands, every_done, every_broken, every_next}
-use borrow.Author.Rules.{rules}
+use Rattle.soundness.proofs.Every.{Every}
 use Rattle.soundness.proofs.sound.Given as goal
 
 abbrev pub invariant-loop-i : goal.invariant-loop-i

@@ -1,5 +1,4 @@
 -- `alone` meets its contract: a node that ends where the bytes do is all of them.
-use borrow.Author.Rules.{rules}
 use Rattle.stream.proofs.Wholes.{whole_all, whole_not}
 use Rattle.stream.proofs.alone.Goals as goal
 

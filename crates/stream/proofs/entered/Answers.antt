@@ -1,7 +1,6 @@
 -- `entered` meets its contract: an entry is the first of a map that was just opened, the next of the innermost, or of one that is not kept.
 use mathlib.Core.Path.{refl, sym}
 use native.Mathlib.Omega.{arith}
-use borrow.Author.Rules.{rules}
 use Rattle.qptr.specs.Values.{part_of}
 use Rattle.stream.proofs.Parts.{count_few}
 use Rattle.stream.proofs.Entering.{enter_outside, enter_next, enter_one, enter_lost, enter_map}

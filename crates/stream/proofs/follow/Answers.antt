@@ -1,7 +1,6 @@
 -- `follow` meets its contract: the offset is held to the last one, and one entry fewer is left.
 use mathlib.Core.Path.{refl}
 use native.Mathlib.Omega.{arith}
-use borrow.Author.Rules.{rules}
 use Rattle.stream.proofs.Following.{follow_falls, follow_next, follow_last}
 use Rattle.stream.proofs.follow.Goals as goal
 

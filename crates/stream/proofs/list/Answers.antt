@@ -1,7 +1,6 @@
 -- `list` meets its contract: the first byte and the count say what follows.
 use mathlib.Core.Path.{sym, ap, ◌∙◌}
 use native.Mathlib.Omega.{arith}
-use borrow.Author.Rules.{rules}
 use Rattle.numbers.proofs.Widths.{argument_width_lem}
 use Rattle.stream.proofs.Firsts.{nothing_first, list_other, Begun, list_short, list_zero, list_nodes}
 use Rattle.stream.proofs.list.Goals as goal

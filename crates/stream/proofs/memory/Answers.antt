@@ -1,6 +1,5 @@
 -- `memory` meets its contract: the first byte says whether a node follows.
 use native.Mathlib.Omega.{arith}
-use borrow.Author.Rules.{rules}
 use Rattle.stream.proofs.Firsts.{nothing_first, memory_node, memory_other}
 use Rattle.stream.proofs.memory.Goals as goal
 

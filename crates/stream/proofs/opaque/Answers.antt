@@ -2,7 +2,6 @@
 use mathlib.Core.Path.{ap}
 use native.Mathlib.Omega.{arith}
 use native.Mathlib.Numerals.{add-one}
-use borrow.Author.Rules.{rules}
 use Rattle.numbers.proofs.Widths.{argument_width_lem}
 use Rattle.stream.proofs.Wholes.{opaque_not, opaque_is}
 use Rattle.stream.proofs.opaque.Goals as goal

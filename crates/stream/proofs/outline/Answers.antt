@@ -1,6 +1,5 @@
 -- `outline` meets its contract: there are no commands but those that have an arm.
 use native.Mathlib.Omega.{arith}
-use borrow.Author.Rules.{rules}
 use Rattle.stream.proofs.Parts.{head_none, head_high}
 use Rattle.stream.proofs.outline.Goals as goal
 

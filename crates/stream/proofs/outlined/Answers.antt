@@ -1,7 +1,6 @@
 -- `outlined` meets its contract: the argument stands behind the size, both in the bytes that the command's row gives them.
 use mathlib.Core.Path.{◌≡◌, ap}
 use native.Mathlib.Omega.{arith}
-use borrow.Author.Rules.{rules}
 use lib.ListN.{get_or}
 use Rattle.definitions.specs.Command.{command_at}
 use Rattle.qptr.specs.Values.{row_of}

@@ -1,7 +1,6 @@
 -- `push` meets its contract: the level is written above the others, and there it stands.
 use mathlib.Core.Path.{refl}
 use native.Mathlib.Omega.{arith}
-use borrow.Author.Rules.{rules}
 use Rattle.stream.proofs.Keeping.{push_top}
 use Rattle.stream.proofs.push.Goals as goal
 

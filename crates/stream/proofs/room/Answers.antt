@@ -1,6 +1,5 @@
 -- `room` meets its contract: there is room, a level is pushed, or the maps are looked at to their ends.
 use mathlib.Core.Path.{refl}
-use borrow.Author.Rules.{rules}
 use Rattle.stream.proofs.Entering.{room_pushed, room_settled, room_lost}
 use Rattle.stream.proofs.room.Goals as goal
 

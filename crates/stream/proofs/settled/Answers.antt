@@ -1,12 +1,11 @@
 -- `settled` meets its contract: the loop keeps that what is owed in order is what is left of the open maps, if it reads in any order, and
 -- fewer entries are left at each turn.
 use native.Mathlib.Omega.{arith}
-use borrow.Author.Rules.{rules}
-use Rattle.stream.specs.Walk.{total, Skips}
+use Rattle.stream.specs.Walk.{Skips}
 use Rattle.stream.specs.Window.{levels, Held, Followed}
 use Rattle.stream.specs.declared.Skipped.TheVariants as skips
 use Rattle.stream.proofs.Keeping.{none_left}
-use Rattle.stream.proofs.Settling.{Settling, settle_start, settle_lost, settle_short, settle_falls, settle_next, settle_end}
+use Rattle.stream.proofs.Settling.{settle_start, settle_lost, settle_short, settle_falls, settle_next, settle_end}
 use Rattle.stream.proofs.settled.Goals as goal
 
 pub loop-around-init : goal.loop-around-init

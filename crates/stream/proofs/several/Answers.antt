@@ -1,10 +1,8 @@
 -- `several` meets its contract: the loop keeps that the nodes that are left, with the sums so far, tell what all of them do, and fewer are left.
-use mathlib.Core.Path.{◌≡◌, refl, ◌∙◌}
+use mathlib.Core.Path.{refl, ◌∙◌}
 use native.Mathlib.Omega.{arith}
-use borrow.Author.Rules.{rules}
-use lib.ListN.{length}
 use Rattle.stream.specs.Found.{NodeAt}
-use Rattle.stream.proofs.Listing.{Listing, list_start, list_stop, list_on, list_end, list_left}
+use Rattle.stream.proofs.Listing.{list_start, list_stop, list_on, list_end, list_left}
 use Rattle.stream.proofs.several.Goals as goal
 
 pub loop-left-init : goal.loop-left-init

@@ -1,6 +1,5 @@
 -- `size` meets its contract: both choose by the flag, and then by the number.
 use native.Mathlib.Omega.{arith}
-use borrow.Author.Rules.{rules}
 use borrow.Author.Tests.{ne_eqb}
 use Rattle.definitions.specs.If.{if◌then◌else◌}
 use Rattle.stream.proofs.Places.{size_at_lem}

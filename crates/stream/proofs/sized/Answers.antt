@@ -1,8 +1,6 @@
 -- `sized` meets its contract: the size says whether there is the own part of which the outline tells the rest.
 use mathlib.Core.Path.{◌≡◌, ap, ◌∙◌}
 use native.Mathlib.Omega.{arith}
-use borrow.Author.Rules.{rules}
-use borrow.Author.Tests.{not-true, not-false}
 use lib.ListN.{drop}
 use Rattle.definitions.specs.If.{if◌then◌else◌}
 use Rattle.definitions.specs.Command.{Head, size_width}

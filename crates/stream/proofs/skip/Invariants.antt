@@ -1,10 +1,7 @@
 -- `skip` meets its contract: the loop keeps that if the node at `from` reads, so does what is still to be read, and fewer bytes are left at each turn.
 use Prim.Native.Nat.{◌-◌}
-use native.Mathlib.Omega.{arith}
-use borrow.Author.Rules.{rules}
 use lib.ListN.{length}
-use Rattle.stream.specs.Head.{OutlineAt}
-use Rattle.stream.proofs.Skipping.{Skipping, Skips_on, skip_start, skip_stop, skip_turn}
+use Rattle.stream.proofs.Skipping.{Skipping}
 use Rattle.stream.proofs.skip.Given as goal
 
 abbrev pub invariant-loop-node : goal.invariant-loop-node

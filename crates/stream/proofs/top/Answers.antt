@@ -1,7 +1,6 @@
 -- `top` meets its contract: the first byte says what follows.
 use mathlib.Core.Path.{sym, ◌∙◌}
 use native.Mathlib.Omega.{arith}
-use borrow.Author.Rules.{rules}
 use Rattle.stream.proofs.Firsts.{nothing_first, top_opaque, top_node, top_other}
 use Rattle.stream.proofs.top.Goals as goal
 

@@ -1,10 +1,8 @@
 -- `transfer_in::link_entries` meets its contract: each turn links one entry to the next, and the last one is linked to none already.
 use Prim.Native.Nat.{◌-◌, ◌≤◌}
-use mathlib.Core.Path.{◌≡◌, refl, ◌∙◌}
-use native.Mathlib.Omega.{arith}
+use mathlib.Core.Path.{◌≡◌}
 use lib.ListN.{length}
-use borrow.Author.Rules.{rules}
-use Rattle.transfer_in.proofs.Tying.{Ties, ties_none, entry_inside, entry_ends, entry_more, ties_more, tied}
+use Rattle.transfer_in.proofs.Tying.{Ties}
 use Rattle.transfer_in.proofs.link_entries.Given as goal
 
 abbrev pub invariant-loop-i : goal.invariant-loop-i

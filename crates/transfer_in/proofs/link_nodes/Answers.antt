@@ -1,10 +1,7 @@
 -- `transfer_in::link_nodes` meets its contract: from record i on all is linked, and each turn links one record more.
-use Prim.Native.Nat.{◌+◌, ◌-◌, ◌≤◌}
-use mathlib.Core.Path.{◌≡◌, refl, ◌∙◌}
+use mathlib.Core.Path.{refl, ◌∙◌}
 use native.Mathlib.Omega.{arith}
-use lib.ListN.{length}
-use borrow.Author.Rules.{rules}
-use Rattle.transfer_in.proofs.Backwards.{Linking, linking_none, linking_more, all_tied, ripe_at}
+use Rattle.transfer_in.proofs.Backwards.{linking_none, linking_more, all_tied, ripe_at}
 use Rattle.transfer_in.proofs.link_nodes.Goals as goal
 
 pub loop-i-init : goal.loop-i-init

@@ -1,10 +1,8 @@
 -- `transfer_in::link_nodes` meets its contract: from record i on all is linked, and each turn links one record more.
 use Prim.Native.Nat.{◌+◌, ◌-◌, ◌≤◌}
-use mathlib.Core.Path.{◌≡◌, refl, ◌∙◌}
-use native.Mathlib.Omega.{arith}
+use mathlib.Core.Path.{◌≡◌}
 use lib.ListN.{length}
-use borrow.Author.Rules.{rules}
-use Rattle.transfer_in.proofs.Backwards.{Linking, linking_none, linking_more, all_tied, ripe_at}
+use Rattle.transfer_in.proofs.Backwards.{Linking}
 use Rattle.transfer_in.proofs.link_nodes.Given as goal
 
 abbrev pub invariant-loop-i : goal.invariant-loop-i

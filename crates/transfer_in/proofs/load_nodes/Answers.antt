@@ -1,12 +1,9 @@
 -- `transfer_in::load_nodes` meets its contract: each turn takes one node out of the bytes that are left.
-use Prim.Native.Nat.{ℕ, ◌-◌, ◌<◌, ◌≤◌}
-use mathlib.Core.Path.{◌≡◌, refl, ◌∙◌}
+use Prim.Native.Nat.{ℕ, ◌<◌}
+use mathlib.Core.Path.{refl, ◌∙◌}
 use native.Mathlib.Omega.{arith}
-use borrow.Author.Rules.{rules}
-use lib.ListN.{length, get_or}
-use Rattle.numbers.specs.Words.{Width}
-use Rattle.transfer_in.specs.Loading.{KeptBelow}
-use Rattle.transfer_in.proofs.Loading.{this_turn, Loads, same_nodes, loads_none, loads_more, loads_done, begins_inside}
+use lib.ListN.{get_or}
+use Rattle.transfer_in.proofs.Loading.{this_turn, same_nodes, loads_none, loads_more, loads_done, begins_inside}
 use Rattle.transfer_in.proofs.Widths.{front_width}
 use Rattle.transfer_in.proofs.load_nodes.Goals as goal
 
@@ -33,8 +30,7 @@ front_behind-front-requires c = omega (arith, c.requires.inside, c.loop-i.invari
 
 pub loop-i-preserved : goal.loop-i-preserved
 loop-i-preserved c =
-    let inv = c.loop-i.invariant in
-    (
+    let inv = c.loop-i.invariant in (
       loads_more inv.0 inv.3 (omega arith) c.load_own-p.ensures c.front_behind-front.ensures,
       (λ j lt. c.load_own-p.ensures.others j (omega arith) ∙ inv.1 j lt),
       rw c.front_behind-front.ensures (front_width _),

@@ -1,17 +1,14 @@
 -- `transfer_in::load_nodes` meets its contract: each turn takes one node out of the bytes that are left.
-use Prim.Native.Nat.{ℕ, ◌-◌, ◌<◌, ◌≤◌}
-use mathlib.Core.Path.{◌≡◌, refl, ◌∙◌}
-use native.Mathlib.Omega.{arith}
-use borrow.Author.Rules.{rules}
-use lib.ListN.{length, get_or}
+use Prim.Native.Nat.{◌-◌, ◌≤◌}
+use mathlib.Core.Path.{◌≡◌}
+use lib.ListN.{length}
 use Rattle.numbers.specs.Words.{Width}
 use Rattle.transfer_in.specs.Loading.{KeptBelow}
-use Rattle.transfer_in.proofs.Loading.{this_turn, Loads, same_nodes, loads_none, loads_more, loads_done, begins_inside}
-use Rattle.transfer_in.proofs.Widths.{front_width}
+use Rattle.transfer_in.proofs.Loading.{Loads}
 use Rattle.transfer_in.proofs.load_nodes.Given as goal
 
 abbrev pub invariant-loop-i : goal.invariant-loop-i
-invariant-loop-i l =     Loads l.s l.at l.p l.work l.q l.end l.i l.front × KeptBelow l.q l.initial.work l.work × Width l.front × (l.q ≤ l.i) × (l.i ≤ l.end) × (l.p ≤ length l.s) × (length l.work ≡ length l.initial.work)
+invariant-loop-i l = Loads l.s l.at l.p l.work l.q l.end l.i l.front × KeptBelow l.q l.initial.work l.work × Width l.front × (l.q ≤ l.i) × (l.i ≤ l.end) × (l.p ≤ length l.s) × (length l.work ≡ length l.initial.work)
 
 abbrev pub decreases-loop-i : goal.decreases-loop-i
 decreases-loop-i l = l.end - l.i

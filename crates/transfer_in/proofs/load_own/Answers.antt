@@ -1,7 +1,6 @@
 -- `transfer_in::load_own` meets its contract: each part is read where it stands, and the record says them.
 use Prim.Native.Nat.{◌+◌}
 use native.Mathlib.Omega.{arith}
-use borrow.Author.Rules.{rules}
 use Rattle.transfer_in.proofs.OwnRead.{head_inside, own_inside, own_loaded}
 use Rattle.transfer_in.proofs.load_own.Goals as goal
 

@@ -1,13 +1,10 @@
 -- `transfer_out::write` meets its contract: the own part, then the element, or each turn an entry behind its offset; the nodes that are
 -- linked below the record fall at each call.
-use Prim.Native.Nat.{ℕ, ◌+◌, ◌<◌}
-use mathlib.Core.Path.{◌≡◌, refl, ◌∙◌}
-use native.Mathlib.Omega.{arith}
-use borrow.Author.Rules.{rules}
+use mathlib.Core.Path.{◌≡◌}
 use lib.ListN.{length}
 use Rattle.links.specs.Rows.{chain, nodes_at}
-use Rattle.transfer_out.proofs.Writing.{Writing, element_fewer, entry_fewer, entry_inside, writing_less}
-use Rattle.transfer_out.proofs.Storing.{own_fitting, put_one, element_fitting, put_array, PutFrom, put_start, offset_fits, entry_fitting, put_next, put_end}
+use Rattle.transfer_out.proofs.Writing.{Writing}
+use Rattle.transfer_out.proofs.Storing.{PutFrom}
 use Rattle.transfer_out.proofs.+write.Given as goal
 
 abbrev pub decreases-write : goal.decreases-write

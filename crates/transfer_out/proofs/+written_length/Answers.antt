@@ -1,12 +1,10 @@
 -- `transfer_out::written_length` meets its contract: an element or an entry has fewer nodes than what holds it, so the nodes that are
 -- linked below the record fall at each call.
-use Prim.Native.Nat.{ℕ, ◌<◌}
 use native.Mathlib.Omega.{arith}
 use borrow.Author.Rules.{rules}
-use Rattle.links.specs.Rows.{chain, nodes_at}
 use Rattle.transfer_out.proofs.Roots.{command_byte}
-use Rattle.transfer_out.proofs.Writing.{Writing, element_readable, element_fewer, entry_readable, entry_fewer, entry_inside, writing_less}
-use Rattle.transfer_out.proofs.Measuring.{LengthOf, length_one, length_array, array_short, length_start, length_short, length_more, length_end}
+use Rattle.transfer_out.proofs.Writing.{element_readable, element_fewer, entry_readable, entry_fewer, entry_inside, writing_less}
+use Rattle.transfer_out.proofs.Measuring.{length_one, length_array, array_short, length_start, length_short, length_more, length_end}
 use Rattle.transfer_out.proofs.+written_length.Goals as goal
 
 pub own_width-n-requires : goal.own_width-n-requires

@@ -1,8 +1,7 @@
 -- `transfer_out::entries` meets its contract: it goes from entry to entry, and stops where the links end.
 use native.Mathlib.Omega.{arith}
 use borrow.Author.Rules.{rules}
-use Rattle.links.specs.Rows.{chain}
-use Rattle.transfer_out.proofs.Counting.{Counting, count_none, entry_inside, count_few, count_more, count_less, count_all}
+use Rattle.transfer_out.proofs.Counting.{count_none, entry_inside, count_few, count_more, count_less, count_all}
 use Rattle.transfer_out.proofs.entries.Goals as goal
 
 pub loop-p-init : goal.loop-p-init

@@ -1,8 +1,6 @@
 -- `transfer_out::entries` meets its contract: it goes from entry to entry, and stops where the links end.
-use native.Mathlib.Omega.{arith}
-use borrow.Author.Rules.{rules}
 use Rattle.links.specs.Rows.{chain}
-use Rattle.transfer_out.proofs.Counting.{Counting, count_none, entry_inside, count_few, count_more, count_less, count_all}
+use Rattle.transfer_out.proofs.Counting.{Counting}
 use Rattle.transfer_out.proofs.entries.Given as goal
 
 abbrev pub invariant-loop-p : goal.invariant-loop-p

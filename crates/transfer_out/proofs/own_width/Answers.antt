@@ -1,7 +1,6 @@
 -- `transfer_out::own_width` meets its contract: the command table's row is the definitions'.
 use Prim.Native.Nat.{◌+◌}
 use mathlib.Core.Path.{ap, ◌∙◌}
-use borrow.Author.Rules.{rules}
 use Rattle.definitions.specs.Command.{Command}
 use Rattle.transfer_out.specs.Nodes.{own_width}
 use Rattle.transfer_out.proofs.own_width.Goals as goal

@@ -1,7 +1,6 @@
 -- `transfer_out::put_head` meets its contract: the parts are stored one behind the other, in as many bytes as the command says.
 use mathlib.Core.Path.{◌∙◌}
 use native.Mathlib.Omega.{arith}
-use borrow.Author.Rules.{rules}
 use lib.ListN.{length-set}
 use Rattle.transfer_out.proofs.OwnStored.{row_room, head_stored}
 use Rattle.transfer_out.proofs.put_head.Goals as goal

@@ -1,6 +1,5 @@
 -- `transfer_out::write_own` meets its contract: the parts are stored one behind the other.
 use native.Mathlib.Omega.{arith}
-use borrow.Author.Rules.{rules}
 use Rattle.transfer_out.proofs.OwnStored.{own_room, own_stored}
 use Rattle.transfer_out.proofs.Roots.{command_byte}
 use Rattle.transfer_out.proofs.write_own.Goals as goal
