@@ -1,12 +1,11 @@
 -- The loop of a placing: whatever goal its first state stood for, each later one stands for too, since a turn goes on from what stands, or places or merges the pending pair.
 -- Assumes nothing.
-use Prim.Native.Nat.{ℕ, zero, suc, ◌+◌, ◌-◌, ◌*◌, ◌^◌, ◌<◌, ◌≤◌}
-use mathlib.Core.Path.{◌≡◌, refl, sym, ap, ◌∙◌}
+use Prim.Native.Nat.{ℕ, zero, suc, ◌+◌, ◌*◌, ◌^◌, ◌<◌, ◌≤◌}
+use mathlib.Core.Path.{◌≡◌, refl, ◌∙◌}
 use mathlib.Core.List.{List, [], ◌∷◌, ◌++◌}
-use native.Mathlib.Decide.{ℕ_discrete}
 use native.Mathlib.Omega.{arith}
 use lib.ListN.{length, length-append}
-use Rattle.definitions.specs.Limits.{max32, node_limit}
+use Rattle.definitions.specs.Limits.{max32}
 use Rattle.definitions.specs.Usage.{Usage, nodes}
 use Rattle.definitions.specs.Table.{Setting}
 use Rattle.definitions.specs.Place.{Result, refused, done, place}
@@ -15,9 +14,9 @@ use Rattle.links.specs.Rows.{chain, nodes_at}
 use Rattle.links.proofs.Stands.{stands_root}
 use Rattle.links.proofs.Chains.{chain_zero}
 use Rattle.links.proofs.Weights.{nodes_at_lem}
-use Rattle.place_states.specs.Calls.{Two, Ready, Near, Linkable, Ground, ground, Done, placing, merging, Placed}
+use Rattle.place_states.specs.Calls.{Two, Ready, Near, Linkable, Ground, ground, placing, merging, Placed}
 use Rattle.place_states.specs.Beyond.{Beyond, entries, element, joins, heading, entry_head, act, outer}
-use Rattle.place_states.specs.States.{Held, Pending, Next, Short, Waiting, Moves}
+use Rattle.place_states.specs.States.{Pending, Next, Short, Waiting, Moves}
 use Rattle.place_states.specs.Starts.{Began}
 use Rattle.place_states.specs.Taking.{Took, Gave}
 use Rattle.place_states.specs.declared.State.{State}

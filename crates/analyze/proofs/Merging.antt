@@ -6,9 +6,8 @@ use mathlib.Core.Path.{◌≡◌, refl, sym, ◌∙◌}
 use mathlib.Core.Bool.{Bool, true, false}
 use mathlib.Core.List.{List}
 use native.Mathlib.Omega.{arith}
-use lib.ListN.{length}
 use Rattle.definitions.specs.If.{if◌then◌else◌}
-use Rattle.definitions.specs.Usage.{Size, Usage, unused, leaf, map, array, none, size, nodes}
+use Rattle.definitions.specs.Usage.{Usage, unused, leaf, map, array, none, size}
 use Rattle.definitions.specs.Command.{head_of, strictness}
 use Rattle.definitions.specs.Table.{Setting}
 use Rattle.definitions.specs.Place.{Result, refused, done, place, merge_mem, first_receives}

@@ -12,7 +12,7 @@ use Rattle.definitions.specs.Table.{Setting}
 use Rattle.definitions.specs.Place.{Result, refused, done, place}
 use Rattle.definitions.specs.Sound.{Storable}
 use Rattle.definitions.specs.Inner.Pairs.{pairs}
-use Rattle.definitions.proofs.Bound.{Bounded, Within, Within.barred, Within.answer, place_within, merge_mem_within}
+use Rattle.definitions.proofs.Bound.{Bounded, Within, place_within, merge_mem_within}
 use Rattle.definitions.proofs.Stored.{place_storable, merge_mem_storable}
 use Rattle.links.proofs.Stands.{stands_le}
 use Rattle.links.proofs.Frames.{kept_trans, kept_widen}

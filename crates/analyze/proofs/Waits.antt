@@ -1,12 +1,12 @@
 -- The pair lies inside of the ranks of all, and what comes after it waits where a call on the pair leaves it.
 -- Assumes nothing.
-use Prim.Native.Nat.{ℕ, suc, ◌+◌, ◌≤◌}
-use mathlib.Core.Path.{◌≡◌, refl, sym, ap, ◌∙◌}
+use Prim.Native.Nat.{ℕ, ◌+◌, ◌≤◌}
+use mathlib.Core.Path.{◌≡◌, sym, ap, ◌∙◌}
 use mathlib.Core.List.{List}
 use native.Mathlib.Omega.{arith}
-use Rattle.definitions.specs.Usage.{Entries, none, entry, nodes_in, count}
+use Rattle.definitions.specs.Usage.{Entries, none, entry, count}
 use Rattle.links.specs.Rows.{onto, chain}
-use Rattle.links.proofs.Stands.{row_le, down_le}
+use Rattle.links.proofs.Stands.{row_le}
 use Rattle.links.proofs.Chains.{chain_zero, chain_many}
 use Rattle.place_states.specs.Beyond.{Beyond, entries, element, joins, outer}
 use Rattle.place_states.specs.States.{Outside}

@@ -1,9 +1,9 @@
 -- One node more of a fold: it stands behind what the nodes so far have come to, the two are merged, and a 38 with nothing behind it is
 -- taken back. The positions stay far from where they wrap, since few nodes have a short report.
 -- Assumes nothing.
-use Rattle.std.proofs.Common.{◌≡◌, ℕ, suc, ◌+◌, ◌-◌, ◌*◌, ◌%◌, ◌^◌, ◌<◌, ◌≤◌, List, [], ◌∷◌, ◌++◌, length, refl, ◌∙◌, subst, arith}
+use Rattle.std.proofs.Common.{◌≡◌, ℕ, ◌+◌, ◌%◌, ◌^◌, ◌<◌, ◌≤◌, List, [], ◌∷◌, ◌++◌, length, refl, ◌∙◌, subst, arith}
 use native.Mathlib.Decide.{dec_lt}
-use Rattle.definitions.specs.Limits.{node_limit, work_limit}
+use Rattle.definitions.specs.Limits.{node_limit}
 use Rattle.definitions.specs.Usage.{Usage, nodes}
 use Rattle.definitions.specs.Stream.{bytes}
 use Rattle.definitions.specs.Table.{Setting}
@@ -14,7 +14,7 @@ use Rattle.links.specs.Rows.{nodes_at}
 use Rattle.links.proofs.Stands.{stands_le, stands_still}
 use Rattle.report.specs.Emitted.{Emitted}
 use Rattle.report.proofs.Emitting.{emitted_after, emitted_back, emitted_same}
-use Rattle.place_states.specs.Calls.{Two, Ready, Near, Linkable, ground, Answered, Done, merging, Placed}
+use Rattle.place_states.specs.Calls.{Two, Ready, Near, ground, Answered, Done, merging, Placed}
 use Rattle.place_states.specs.declared.Outcome.{Outcome}
 use Rattle.transfer_in.specs.Loading.{itself}
 use Rattle.folding.specs.Folding.{NodeReady, NodeLoaded, Beside, NextReady, of_next, NextDone, NextFolded}

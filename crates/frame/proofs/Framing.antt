@@ -1,7 +1,7 @@
 -- A block at a place of the input, and three of them behind one another: each begins where the one before it ends.
 -- Assumes nothing.
 use Rattle.std.proofs.Common.{◌≡◌, ℕ, ◌+◌, ◌-◌, ◌<◌, ◌≤◌, ltb, List, length, drop, refl, arith, length-drop, drop-drop, le-ltb, lt-ltb}
-use mathlib.Core.Option.{none as nothing, some}
+use mathlib.Core.Option.{none as nothing}
 use Rattle.definitions.specs.If.{if◌then◌else◌}
 use Rattle.definitions.specs.Stream.{broken, whole}
 use Rattle.definitions.proofs.Choice.{either}

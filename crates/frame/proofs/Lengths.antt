@@ -1,6 +1,6 @@
 -- A call's answer lies within its buffers, and so the line has a longest length.
 -- Assumes nothing.
-use Rattle.std.proofs.Common.{◌≡◌, ℕ, zero, suc, ◌+◌, ◌-◌, ◌*◌, ◌/◌, ◌≤◌, ◌&&◌, ltb, List, [], ◌∷◌, length, take, drop, refl, arith, length-append, length-drop, length-take, get_or-drop, ext_get_or, ltb-false}
+use Rattle.std.proofs.Common.{◌≡◌, ℕ, zero, suc, ◌+◌, ◌*◌, ◌/◌, ◌≤◌, ◌&&◌, ltb, List, [], ◌∷◌, length, take, drop, refl, arith, length-append, length-drop, length-take, get_or-drop, ext_get_or, ltb-false}
 use mathlib.Core.Option.{Option, none as nothing, some}
 use lib.ListN.{length-replicate}
 use Rattle.definitions.specs.Limits.{work_limit}

@@ -4,7 +4,7 @@ use Rattle.std.specs.Prelude.{◌≡◌, ℕ, ◌+◌, ◌-◌, ◌≤◌, List,
 use Rattle.std.proofs.Math.Option.{none as nothing, some}
 use Rattle.definitions.specs.Stream.{broken, read}
 use Rattle.numbers.specs.Words.{word}
-use Rattle.frame.specs.Frame.{Blocks, read_block, blocks_of}
+use Rattle.frame.specs.Frame.{read_block, blocks_of}
 use Rattle.frame.specs.declared.End.{End}
 use Rattle.frame.specs.declared.End.TheVariants as ends
 use Rattle.frame.specs.declared.Frame.{Frame}

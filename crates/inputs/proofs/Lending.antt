@@ -1,12 +1,10 @@
 -- Two usages that were loaded side by side are ready to be placed one into the other, and few enough for the report to stay short.
 -- Assumes nothing.
-use Prim.Native.Nat.{ℕ, ◌+◌, ◌*◌, ◌≤◌}
-use mathlib.Core.Path.{◌≡◌, sym}
+use Prim.Native.Nat.{ℕ, ◌+◌, ◌≤◌}
 use mathlib.Core.List.{List}
 use native.Mathlib.Omega.{arith}
 use lib.ListN.{length}
-use Rattle.definitions.specs.Limits.{node_limit}
-use Rattle.definitions.specs.Usage.{Usage, nodes}
+use Rattle.definitions.specs.Usage.{Usage}
 use Rattle.definitions.specs.Table.{Setting}
 use Rattle.links.specs.Rows.{nodes_at}
 use Rattle.links.proofs.Stands.{stands_root}

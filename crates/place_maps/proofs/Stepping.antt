@@ -1,7 +1,7 @@
 -- A step of rule 6 begins by taking apart what stands: the highest of the entries to be joined, those below it, those below all of
 -- them and those above.
 -- Assumes nothing.
-use Prim.Native.Nat.{ℕ, suc, ◌+◌, ◌*◌, ◌<◌, ◌≤◌}
+use Prim.Native.Nat.{ℕ, suc, ◌+◌, ◌*◌, ◌≤◌}
 use mathlib.Core.Path.{◌≡◌, refl, sym, subst, ap, ◌∙◌}
 use mathlib.Core.List.{List}
 use lib.ListN.{length}

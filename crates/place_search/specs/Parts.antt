@@ -1,6 +1,6 @@
 -- What the search for the entries that overlap finds: those below, those that overlap, and those above.
 -- Assumes nothing.
-use Rattle.std.specs.Prelude.{ℕ, suc, ◌+◌, ◌*◌, ◌<◌, ◌≤◌, ◌≡◌, Bool, true, false, ◌||◌, List, length}
+use Rattle.std.specs.Prelude.{ℕ, suc, ◌+◌, ◌*◌, ◌≤◌, ◌≡◌, Bool, true, false, ◌||◌, List, length}
 use Rattle.definitions.specs.Limits.{node_limit}
 use Rattle.definitions.specs.Usage.{Size, fixed, Usage, Entries, none, entry, size, nodes_in, ◌<+>◌}
 use Rattle.definitions.specs.Place.{ends, past32, ◌≤ˢ◌}

@@ -1,6 +1,6 @@
 -- A placing's pairings stay few at every step, whatever comes of it: each is paid for by a pair of nodes that has not been met before.
 -- Assumes nothing.
-use Rattle.std.proofs.Common.{◌≡◌, ℕ, ◌+◌, ◌*◌, ◌^◌, ◌<◌, ◌≤◌, refl, mul-le-mul, arith}
+use Rattle.std.proofs.Common.{◌≡◌, ℕ, ◌+◌, ◌*◌, ◌^◌, ◌≤◌, refl, mul-le-mul, arith}
 use Rattle.definitions.specs.Usage.{Size, Usage, Entries, none, entry, nodes, ◌<+>◌}
 use Rattle.definitions.specs.Inner.Pairs.{pairs}
 use Rattle.definitions.specs.Table.{Setting}

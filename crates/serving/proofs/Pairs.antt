@@ -1,7 +1,7 @@
 -- Two usages that were read, with types of the table and few nodes: they are loaded into the work area, where they are ready to be
 -- placed one into the other, and what that leaves in the work area is what the definition gives.
 -- Assumes nothing.
-use Prim.Native.Nat.{ℕ, ◌+◌, ◌*◌, ◌≤◌}
+use Prim.Native.Nat.{ℕ, ◌+◌, ◌≤◌}
 use mathlib.Core.Path.{◌≡◌, refl, sym}
 use mathlib.Core.List.{List, [], ◌∷◌, append-nil}
 use native.Mathlib.Omega.{arith}

@@ -1,6 +1,6 @@
 -- What the usages of accepted streams give, once they are loaded into a work area of just the bytes that are asked for.
 -- Assumes nothing.
-use Rattle.std.specs.Prelude.{ℕ, ◌+◌, ◌<◌, ◌≤◌, ◌≡◌, List, [], ◌∷◌, length, drop}
+use Rattle.std.specs.Prelude.{ℕ, ◌+◌, ◌≤◌, ◌≡◌, List, [], ◌∷◌, length, drop}
 use Rattle.definitions.specs.Limits.{node_limit, work_limit}
 use Rattle.definitions.specs.Usage.{Usage, nodes, Nodes}
 use Rattle.definitions.specs.Stream.{read, read_node, write_node}

@@ -11,7 +11,7 @@ use native.Mathlib.Decide.{ℕ_discrete}
 use lib.ListN.{length, get_or, replicate}
 use Rattle.definitions.proofs.Earlier.{accepted}
 use Rattle.records.specs.Records.{Marked}
-use Rattle.support_memory.specs.Nodes.{Unchanged, Child, Below, Below.itself, Below.inside, Blank}
+use Rattle.support_memory.specs.Nodes.{Unchanged, Child, Below, Blank}
 use Rattle.support_memory.specs.Memory.{tag_of, In, Marks, Recollects, Remembers}
 use Rattle.support_memory.specs.declared.Recalled.{Recalled}
 use Rattle.support_memory.specs.declared.Recalled.TheVariants.{No, Yes}

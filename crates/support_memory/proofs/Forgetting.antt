@@ -6,7 +6,7 @@ use native.Mathlib.Decide.{ℕ_discrete}
 use Rattle.records.specs.Records.{command_in, next_in, child_in, tag_in, Marked}
 use Rattle.links.specs.Rows.{chain, nodes_at}
 use Rattle.links.proofs.Stands.{stands_root}
-use Rattle.support_memory.specs.Nodes.{UsageAt, Unchanged, Along, Along.first, Along.later, Child, Child.element, Child.entry, Below, Below.itself, Below.inside, Blank, Forgotten}
+use Rattle.support_memory.specs.Nodes.{UsageAt, Unchanged, Along, Child, Below, Blank, Forgotten}
 use Rattle.support_memory.proofs.Staying.{unchanged_none, unchanged_both, unchanged_marked, command_stays, next_stays, child_stays, child_back, below_back, usage_after}
 use Rattle.support_memory.proofs.Roots.{by_kind}
 use Rattle.support_memory.proofs.Linked.{Linked, nodes_stay, element_usage, element_smaller, first_linked, next_linked, chain_falls, entry_usage, entry_smaller}

@@ -12,7 +12,7 @@ use Rattle.links.proofs.Stands.{stands_root}
 use Rattle.links.proofs.Rows.{Head, head}
 use Rattle.links.proofs.Chains.{chain_many}
 use Rattle.links.proofs.Weights.{nodes_at_lem}
-use Rattle.support_memory.specs.Nodes.{UsageAt, Unchanged, Along, Along.first, Along.later, Child, Child.entry}
+use Rattle.support_memory.specs.Nodes.{UsageAt, Unchanged, Along, Child, Child.entry}
 use Rattle.support_memory.proofs.Roots.{on_map, on_array}
 use Rattle.support_memory.proofs.Staying.{usage_after}
 

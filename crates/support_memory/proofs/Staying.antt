@@ -1,11 +1,11 @@
 -- Where each record says what it said, each usage stands where it stood, and its nodes are the same records.
 -- Assumes nothing.
-use Rattle.std.proofs.Common.{◌≡◌, ℕ, ◌<◌, List, length, sym, refl, ap, ◌∙◌, subst, arith}
+use Rattle.std.proofs.Common.{◌≡◌, ℕ, List, length, sym, refl, ap, ◌∙◌, subst, arith}
 use Rattle.definitions.specs.Usage.{Usage}
 use Rattle.records.specs.Records.{Cell, cell, command_in, child_in, next_in, Marked}
 use Rattle.links.specs.Standing.{Stands}
 use Rattle.links.proofs.Stands.{stands_marks}
-use Rattle.support_memory.specs.Nodes.{UsageAt, Unchanged, Along, Along.first, Along.later, Child, Child.element, Child.entry, Below, Below.itself, Below.inside}
+use Rattle.support_memory.specs.Nodes.{UsageAt, Unchanged, Along, Child, Below}
 
 pub unchanged_none : {s : List ℕ} → Unchanged s s
 unchanged_none = record { len = refl; same = λ i. refl }

@@ -1,10 +1,9 @@
 -- Both call on fewer nodes, or merging on the same: the measure counts the nodes of both sides twice, and merging once more. The loop keeps its goal ahead.
 use borrow.Author.Rules.{rules}
-use Prim.Native.Nat.{ℕ, ◌+◌, ◌*◌, ◌<◌, ◌≤◌}
-use mathlib.Core.Path.{◌≡◌, refl, ◌∙◌}
+use Prim.Native.Nat.{◌≤◌}
+use mathlib.Core.Path.{◌∙◌}
 use native.Mathlib.Omega.{arith}
-use Rattle.links.specs.Rows.{chain, nodes_at}
-use Rattle.analyze.proofs.Loop.{Loop, loop_first, loop_last, loop_waits, loop_step, pair_less, pair_ready, pair_near, loop_again, chain_less, alive, is_merging, is_placing}
+use Rattle.analyze.proofs.Loop.{loop_first, loop_last, loop_waits, loop_step, pair_less, pair_ready, pair_near, loop_again, chain_less, alive, is_merging, is_placing}
 use Rattle.analyze.proofs.Merging.{ready_swap, merged_left, merged_right}
 use Rattle.analyze.proofs.+merging.Goals as goal
 

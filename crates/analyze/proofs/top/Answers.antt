@@ -1,6 +1,5 @@
 -- `top` meets its contract: the node is made of the record's command and size.
 use mathlib.Core.Path.{◌∙◌}
-use borrow.Author.Rules.{rules}
 use Rattle.analyze.proofs.top.Goals as goal
 
 pub returns : goal.returns

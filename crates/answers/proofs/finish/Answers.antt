@@ -1,6 +1,5 @@
 -- `finish` meets its contract: what was reached is a refusal, or a usage that stands, and 10 and 11 are decided before anything is written.
 use native.Mathlib.Omega.{arith}
-use borrow.Author.Rules.{rules}
 use Rattle.transfer_out.specs.Writing.{Readable}
 use Rattle.answers.proofs.Finishing.{standing, length_small, fitting, length_put, finished_refused, finished_10, finished_11, finished_written}
 use Rattle.answers.proofs.finish.Goals as goal

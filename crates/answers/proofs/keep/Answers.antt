@@ -1,7 +1,6 @@
 -- `keep` meets its contract: 10 and 11 are decided, then the stream is copied, and conflict 37 comes to the start of the zeroed report.
 use mathlib.Core.Path.{◌≡◌, ap, ◌∙◌}
 use native.Mathlib.Omega.{arith}
-use borrow.Author.Rules.{rules}
 use lib.ListN.{length}
 use Rattle.answers.specs.Writing.{unlike_report}
 use Rattle.answers.proofs.Giving.{gives_10, gives_11, gives_written}
@@ -23,10 +22,10 @@ pub shape_of-rep : goal.shape_of-rep
 shape_of-rep c =
     let a = c.args in
     let reported : c.if-report-eq1.rep ≡ unlike_in (length a.rep.now) a.report =
-        elim c.if-report-eq1.branch [
-          then-report-eq1 w ↦ w.rep-is ∙ one_unlike (length a.rep.now) c.zero.ensures w.if-report-eq1.true (omega (arith, w.if-report-eq1.true, c.if-rep-report.false))
-        | else-report-eq1 w ↦ w.rep-is ∙ none_unlike (length a.rep.now) c.zero.ensures c.requires w.if-report-eq1.false
-        ] in
+    elim c.if-report-eq1.branch [
+      | then-report-eq1 w ↦ w.rep-is ∙ one_unlike (length a.rep.now) c.zero.ensures w.if-report-eq1.true (omega (arith, w.if-report-eq1.true, c.if-rep-report.false))
+      | else-report-eq1 w ↦ w.rep-is ∙ none_unlike (length a.rep.now) c.zero.ensures c.requires w.if-report-eq1.false
+    ] in
     ap length reported ∙ length_unlike (length a.rep.now) a.report c.requires c.if-rep-report.false
 
 pub returns : goal.returns
@@ -34,8 +33,8 @@ returns c =
     let a = c.args in
     let long = unlike_length a.report c.requires in
     let reported : c.if-report-eq1.rep ≡ unlike_in (length a.rep.now) a.report =
-        elim c.if-report-eq1.branch [
-          then-report-eq1 w ↦ w.rep-is ∙ one_unlike (length a.rep.now) c.zero.ensures w.if-report-eq1.true (omega (arith, w.if-report-eq1.true, c.if-rep-report.false))
-        | else-report-eq1 w ↦ w.rep-is ∙ none_unlike (length a.rep.now) c.zero.ensures c.requires w.if-report-eq1.false
-        ] in
+    elim c.if-report-eq1.branch [
+      | then-report-eq1 w ↦ w.rep-is ∙ one_unlike (length a.rep.now) c.zero.ensures w.if-report-eq1.true (omega (arith, w.if-report-eq1.true, c.if-rep-report.false))
+      | else-report-eq1 w ↦ w.rep-is ∙ none_unlike (length a.rep.now) c.zero.ensures c.requires w.if-report-eq1.false
+    ] in
     gives_written a.output.now (length a.rep.now) a.first.now (unlike_report a.report) 0 c.if-output-first.false (omega (arith, long, c.if-rep-report.false)) (rw (← long) at c.answered.ensures) c.copy.ensures reported

@@ -1,7 +1,6 @@
 -- `refuse` meets its contract: all of the report buffer is zeroed.
 use native.Mathlib.Nat.{sub-zero}
 use lib.ListN.{length}
-use borrow.Author.Rules.{rules}
 use Rattle.answers.proofs.refuse.Goals as goal
 
 pub returns : goal.returns

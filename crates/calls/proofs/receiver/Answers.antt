@@ -1,5 +1,4 @@
 -- `receiver` meets its contract: who receives says which part is handed back.
-use borrow.Author.Rules.{rules}
 use Rattle.calls.proofs.Receivers.{handed}
 use Rattle.calls.proofs.receiver.Goals as goal
 

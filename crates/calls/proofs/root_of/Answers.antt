@@ -1,5 +1,4 @@
 -- `root_of` meets its contract: a Memory is read behind its first byte, and so is its root's own part.
-use borrow.Author.Rules.{rules}
 use Rattle.serving.proofs.Memories.{Memory, found, lost}
 use Rattle.calls.proofs.Roots.{root_part, root_none}
 use Rattle.calls.proofs.root_of.Goals as goal

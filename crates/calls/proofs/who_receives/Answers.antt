@@ -1,6 +1,5 @@
 -- `who_receives` meets its contract: the refusals come in their order, and the receiver rule asks the two own parts.
 use native.Mathlib.Omega.{arith}
-use borrow.Author.Rules.{rules}
 use Rattle.calls.specs.Roots.{RootOf}
 use Rattle.calls.proofs.Receivers.{bad_first, bad_second, too_many, received}
 use Rattle.calls.proofs.who_receives.Goals as goal

@@ -1,6 +1,6 @@
 -- `fold_next` meets its contract: the node is loaded behind what there is so far, and the two are merged. A 38 stays where the
 -- position says that something was reported behind it.
-use Rattle.std.proofs.Common.{◌∙◌, arith, rules}
+use Rattle.std.proofs.Common.{arith}
 use Rattle.folding.proofs.Nexts.{index_back, index_kept, next_node_ready, next_free, next_merges, next_near, next_folded}
 use Rattle.folding.proofs.fold_next.Goals as goal
 

@@ -1,11 +1,8 @@
 -- `fold_nodes` meets its contract: what is left to fold, with what was reported and counted so far, gives what the definition does,
 -- and fewer nodes are left at each turn. A refusal ends the fold.
-use Rattle.std.proofs.Common.{◌≡◌, ◌-◌, length, refl, ap, ◌∙◌, arith, rules}
-use Rattle.definitions.specs.Usage.{Nodes}
+use Rattle.std.proofs.Common.{refl, ap, ◌∙◌, arith}
 use Rattle.definitions.specs.Command.{Command}
-use Rattle.definitions.specs.Table.{Setting}
-use Rattle.folding.specs.Folding.{Foldable}
-use Rattle.folding.proofs.Folds.{Folding, count_inside, first_ready, first_few, fold_start, turn_ready, turn_refused, turn_on, fold_end}
+use Rattle.folding.proofs.Folds.{count_inside, first_ready, first_few, fold_start, turn_ready, turn_refused, turn_on, fold_end}
 use Rattle.folding.proofs.fold_nodes.Goals as goal
 
 pub number-count-requires : goal.number-count-requires

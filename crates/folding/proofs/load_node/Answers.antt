@@ -1,5 +1,4 @@
 -- `load_node` meets its contract: the bytes do read as a node, so it is found, and it is the one that is loaded.
-use Rattle.std.proofs.Common.{rules}
 use Rattle.folding.proofs.NodeLoads.{never_broken, node_loadable, node_loaded}
 use Rattle.folding.proofs.load_node.Goals as goal
 

@@ -1,5 +1,4 @@
 -- `of_node` meets its contract: the three bytes stand behind one another.
-use Rattle.std.proofs.Common.{rules}
 use Rattle.report.proofs.Emitting.{emitted_after}
 use Rattle.folding.proofs.of_node.Goals as goal
 

@@ -1,5 +1,5 @@
 -- `answer` meets its contract: its four pieces stand behind one another.
-use Rattle.std.proofs.Common.{arith, length-take, rules}
+use Rattle.std.proofs.Common.{arith, length-take}
 use Rattle.frame.proofs.Printing.{answer_put}
 use Rattle.frame.proofs.answer.Goals as goal
 

@@ -1,5 +1,5 @@
 -- `block` meets its contract: the length is read, and the bytes that it counts must be there.
-use Rattle.std.proofs.Common.{arith, rules}
+use Rattle.std.proofs.Common.{arith}
 use Rattle.frame.proofs.Framing.{prefix_short, block_short, block_whole}
 use Rattle.frame.proofs.block.Goals as goal
 

@@ -1,5 +1,4 @@
 -- `blocks` meets its contract: each block begins where the one before it ends, and the last one ends with the input.
-use Rattle.std.proofs.Common.{rules}
 use Rattle.frame.specs.Places.{BlockAt}
 use Rattle.frame.proofs.Framing.{too_long, table_broken, first_broken, second_broken, left_over, framed}
 use Rattle.frame.proofs.blocks.Goals as goal

@@ -1,5 +1,4 @@
 -- `broken` meets its contract: the six bytes stand behind one another.
-use Rattle.std.proofs.Common.{rules}
 use Rattle.frame.proofs.Putting.{put_after}
 use Rattle.frame.proofs.broken.Goals as goal
 

@@ -1,5 +1,4 @@
 -- `hex` meets its contract: `-` if the bytes are empty, else their digits.
-use Rattle.std.proofs.Common.{rules}
 use Rattle.frame.proofs.Showing.{hex_none, hex_some}
 use Rattle.frame.proofs.hex.Goals as goal
 

@@ -1,5 +1,4 @@
 -- `hex_digit` meets its contract: 0 to 9, and then a to f.
-use Rattle.std.proofs.Common.{rules}
 use Rattle.frame.proofs.Showing.{low_digit, high_digit}
 use Rattle.frame.proofs.hex_digit.Goals as goal
 

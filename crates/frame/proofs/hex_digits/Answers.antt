@@ -1,7 +1,7 @@
 -- `hex_digits` meets its contract. The loop's invariant: the digits of the first i bytes are emitted.
-use Rattle.std.proofs.Common.{◌-◌, length, arith, rules}
+use Rattle.std.proofs.Common.{arith}
 use Rattle.frame.proofs.Putting.{put_nothing}
-use Rattle.frame.proofs.Showing.{Shown, shown_more, shown_all}
+use Rattle.frame.proofs.Showing.{shown_more, shown_all}
 use Rattle.frame.proofs.hex_digits.Goals as goal
 
 pub loop-i-init : goal.loop-i-init

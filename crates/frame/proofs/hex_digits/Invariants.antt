@@ -1,7 +1,6 @@
 -- `hex_digits` meets its contract. The loop's invariant: the digits of the first i bytes are emitted.
-use Rattle.std.proofs.Common.{◌-◌, length, arith, rules}
-use Rattle.frame.proofs.Putting.{put_nothing}
-use Rattle.frame.proofs.Showing.{Shown, shown_more, shown_all}
+use Rattle.std.proofs.Common.{◌-◌, length}
+use Rattle.frame.proofs.Showing.{Shown}
 use Rattle.frame.proofs.hex_digits.Given as goal
 
 abbrev pub invariant-loop-i : goal.invariant-loop-i

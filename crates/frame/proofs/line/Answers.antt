@@ -1,5 +1,4 @@
 -- `line` meets its contract: no line is longer than the buffer.
-use Rattle.std.proofs.Common.{rules}
 use Rattle.frame.proofs.Lengths.{line_held}
 use Rattle.frame.proofs.line.Goals as goal
 

@@ -1,5 +1,4 @@
 -- `merged` meets its contract: the call gives back what the definition has, within the buffers.
-use Rattle.std.proofs.Common.{rules}
 use Rattle.frame.proofs.Printing.{Merged, merge_given}
 use Rattle.frame.proofs.merged.Goals as goal
 

@@ -1,5 +1,4 @@
 -- `number` meets its contract: the space stands behind the digits.
-use Rattle.std.proofs.Common.{rules}
 use Rattle.frame.proofs.Putting.{put_after}
 use Rattle.frame.proofs.number.Goals as goal
 

@@ -1,5 +1,5 @@
 -- `printed` meets its contract: the blocks that were found are merged.
-use Rattle.std.proofs.Common.{arith, rules}
+use Rattle.std.proofs.Common.{arith}
 use Rattle.frame.specs.Places.{BlocksAt}
 use Rattle.frame.proofs.Printing.{not_framed, is_framed}
 use Rattle.frame.proofs.printed.Goals as goal

@@ -1,5 +1,4 @@
 -- `text` meets its contract: the byte stands behind the digits.
-use Rattle.std.proofs.Common.{rules}
 use Rattle.frame.proofs.Putting.{put_after}
 use Rattle.frame.proofs.text.Goals as goal
 

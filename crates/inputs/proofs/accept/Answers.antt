@@ -1,6 +1,5 @@
 -- `accept` meets its contract: the refusals come in their order, and streams that meet none are good.
 use native.Mathlib.Omega.{arith}
-use borrow.Author.Rules.{rules}
 use borrow.Author.Tests.{not-true, not-false}
 use lib.ListN.{length}
 use Rattle.inputs.proofs.Tables.{Begun, begin}

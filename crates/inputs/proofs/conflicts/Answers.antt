@@ -1,7 +1,6 @@
 -- `conflicts` meets its contract: an Opaque is the same as another top where their first bytes and their types are.
 use mathlib.Core.Path.{ap}
 use native.Mathlib.Omega.{arith}
-use borrow.Author.Rules.{rules}
 use Rattle.definitions.specs.Command.{Command}
 use Rattle.definitions.proofs.Written.{Bytes}
 use Rattle.inputs.proofs.FirstBytes.{some_bytes, opaque_bytes, other_bytes, other_kind, other_type, same_opaque}

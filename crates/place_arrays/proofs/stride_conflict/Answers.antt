@@ -1,5 +1,4 @@
 -- `place_arrays::stride_conflict` meets its contract. The stride stands behind the byte.
-use borrow.Author.Rules.{rules}
 use Rattle.report.proofs.Emitting.{emitted_after}
 use Rattle.place_arrays.proofs.stride_conflict.Goals as goal
 

@@ -1,7 +1,6 @@
 -- `place_maps::restore` meets its contract. The loop keeps what `Lifts` says, and one entry less is left in each turn.
 use borrow.Author.Rules.{rules}
-use Rattle.links.specs.Rows.{chain}
-use Rattle.place_maps.proofs.Restoring.{Lifts, lifts_start, lifts_in, lifts_small, lifts_more, lifts_less, lifts_end}
+use Rattle.place_maps.proofs.Restoring.{lifts_start, lifts_in, lifts_small, lifts_more, lifts_less, lifts_end}
 use Rattle.place_maps.proofs.restore.Goals as goal
 
 pub loop-p-init : goal.loop-p-init

@@ -1,7 +1,6 @@
 -- `place_maps::reverse` meets its contract. The loop keeps what `Turns` says, and one entry less is left in each turn.
 use borrow.Author.Rules.{rules}
-use Rattle.links.specs.Rows.{chain}
-use Rattle.place_maps.proofs.Turning.{Turns, turns_start, turns_in, turns_more, turns_less, turns_end}
+use Rattle.place_maps.proofs.Turning.{turns_start, turns_in, turns_more, turns_less, turns_end}
 use Rattle.place_maps.proofs.reverse.Goals as goal
 
 pub loop-p-init : goal.loop-p-init

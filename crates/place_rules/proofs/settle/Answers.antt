@@ -1,5 +1,4 @@
 -- `place_rules::settle` meets its contract. A refusal is handed on, and else the state says what the pair has become.
-use Rattle.std.proofs.Common.{rules}
 use Rattle.place_rules.proofs.Settling.{is_refused, is_held}
 use Rattle.place_rules.proofs.settle.Goals as goal
 

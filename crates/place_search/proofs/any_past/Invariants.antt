@@ -1,8 +1,7 @@
 -- `place_search::any_past` meets its contract. The loop's invariant: none of the entries before p ends past 32 bits. The measure is what is
 -- linked from p on.
 use Rattle.links.specs.Rows.{chain}
-use Rattle.place_search.proofs.Pasts.{Passing, pass_start, pass_inside, pass_one, pass_less, pass_more, pass_end}
-use borrow.Author.Rules.{rules}
+use Rattle.place_search.proofs.Pasts.{Passing}
 use Rattle.place_search.proofs.any_past.Given as goal
 
 abbrev pub invariant-loop-p : goal.invariant-loop-p

@@ -1,8 +1,6 @@
 -- `place_search::cut_few` meets its contract. The loop's invariant: the first k rows are the entries before p. The measure is what is linked
 -- from p on.
-use Prim.Native.Nat.{◌≤◌}
-use Rattle.links.specs.Rows.{chain}
-use Rattle.place_search.proofs.Filling.{Filling, fill_start, fill_within, fill_inside, fill_small, fill_less, fill_more, cuts, cuts_all, cuts_not}
+use Rattle.place_search.proofs.Filling.{fill_start, fill_within, fill_inside, fill_small, fill_less, fill_more, cuts, cuts_all, cuts_not}
 use borrow.Author.Rules.{rules}
 use Rattle.place_search.proofs.cut_few.Goals as goal
 

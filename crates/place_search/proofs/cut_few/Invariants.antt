@@ -2,8 +2,7 @@
 -- from p on.
 use Prim.Native.Nat.{◌≤◌}
 use Rattle.links.specs.Rows.{chain}
-use Rattle.place_search.proofs.Filling.{Filling, fill_start, fill_within, fill_inside, fill_small, fill_less, fill_more, cuts, cuts_all, cuts_not}
-use borrow.Author.Rules.{rules}
+use Rattle.place_search.proofs.Filling.{Filling}
 use Rattle.place_search.proofs.cut_few.Given as goal
 
 abbrev pub invariant-loop-t : goal.invariant-loop-t

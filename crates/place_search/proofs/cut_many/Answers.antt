@@ -1,8 +1,6 @@
 -- `place_search::cut_many` meets its contract, as `cut_few` does. A row is left for each entry, since at most 511 are linked.
-use Prim.Native.Nat.{◌≤◌}
 use native.Mathlib.Omega.{arith}
-use Rattle.links.specs.Rows.{chain}
-use Rattle.place_search.proofs.Filling.{Filling, fill_start, fill_within, fill_inside, fill_small, fill_room, fill_less, fill_more, cuts}
+use Rattle.place_search.proofs.Filling.{fill_start, fill_within, fill_inside, fill_small, fill_room, fill_less, fill_more, cuts}
 use borrow.Author.Rules.{rules}
 use Rattle.place_search.proofs.cut_many.Goals as goal
 

@@ -1,6 +1,4 @@
 -- `place_search::skip` meets its contract, which is the loop's invariant. The measure is what is linked from p on.
-use Rattle.links.specs.Rows.{chain}
-use Rattle.place_search.specs.Seeking.{Skips}
 use Rattle.place_search.proofs.Skipping.{skip_start, skip_within, skip_inside, skip_less, skip_more}
 use borrow.Author.Rules.{rules}
 use Rattle.place_search.proofs.skip.Goals as goal

@@ -2,10 +2,8 @@
 use Prim.Native.Nat.{ℕ}
 use mathlib.Core.Path.{◌≡◌}
 use native.Mathlib.Omega.{arith}
-use borrow.Author.Tests.{not-false}
 use lib.ListN.{length-take}
 use Rattle.replaying.proofs.Filling.{begun}
-use borrow.Author.Rules.{rules}
 use Rattle.replaying.proofs.begins.Goals as goal
 
 pub slice_bounds-same-end : goal.slice_bounds-same-end

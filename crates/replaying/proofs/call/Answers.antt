@@ -4,7 +4,6 @@ use lib.ListN.{length, get_or, take, length-take}
 use mathlib.Core.Path.{◌≡◌}
 use Rattle.numbers.specs.Words.{word}
 use Rattle.replaying.proofs.Agreeing.{is_place, is_merge, is_fold}
-use borrow.Author.Rules.{rules}
 use Rattle.replaying.proofs.call.Goals as goal
 
 pub slice_bounds-place-end-in-2 : goal.slice_bounds-place-end-in-2

@@ -1,9 +1,7 @@
 -- `fill` meets its contract. The loop's invariant: the bytes up to i are filled.
-use Prim.Native.Nat.{◌-◌}
-use mathlib.Core.Path.{◌≡◌, refl}
-use borrow.Author.Rules.{rules}
-use lib.ListN.{length, length-set}
-use Rattle.replaying.proofs.Filling.{Filled, filled_none, filled_set, filled_all}
+use mathlib.Core.Path.{refl}
+use lib.ListN.{length-set}
+use Rattle.replaying.proofs.Filling.{filled_none, filled_set, filled_all}
 use Rattle.replaying.proofs.fill.Goals as goal
 
 pub loop-i-init : goal.loop-i-init

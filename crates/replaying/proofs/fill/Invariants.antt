@@ -1,9 +1,8 @@
 -- `fill` meets its contract. The loop's invariant: the bytes up to i are filled.
 use Prim.Native.Nat.{◌-◌}
-use mathlib.Core.Path.{◌≡◌, refl}
-use borrow.Author.Rules.{rules}
-use lib.ListN.{length, length-set}
-use Rattle.replaying.proofs.Filling.{Filled, filled_none, filled_set, filled_all}
+use mathlib.Core.Path.{◌≡◌}
+use lib.ListN.{length}
+use Rattle.replaying.proofs.Filling.{Filled}
 use Rattle.replaying.proofs.fill.Given as goal
 
 abbrev pub invariant-loop-i : goal.invariant-loop-i

@@ -1,10 +1,8 @@
 -- `only` meets its contract. The loop's invariant: the bytes up to i are that byte.
-use Prim.Native.Nat.{ℕ, ◌-◌}
+use Prim.Native.Nat.{ℕ}
 use mathlib.Core.Path.{◌≡◌}
 use native.Mathlib.Omega.{arith}
-use borrow.Author.Rules.{rules}
-use lib.ListN.{length}
-use Rattle.replaying.proofs.Filling.{Filled, filled_none, filled_more, filled_all}
+use Rattle.replaying.proofs.Filling.{filled_none, filled_more, filled_all}
 use Rattle.replaying.proofs.only.Goals as goal
 
 pub loop-i-init : goal.loop-i-init

@@ -1,10 +1,7 @@
 -- `only` meets its contract. The loop's invariant: the bytes up to i are that byte.
-use Prim.Native.Nat.{ℕ, ◌-◌}
-use mathlib.Core.Path.{◌≡◌}
-use native.Mathlib.Omega.{arith}
-use borrow.Author.Rules.{rules}
+use Prim.Native.Nat.{◌-◌}
 use lib.ListN.{length}
-use Rattle.replaying.proofs.Filling.{Filled, filled_none, filled_more, filled_all}
+use Rattle.replaying.proofs.Filling.{Filled}
 use Rattle.replaying.proofs.only.Given as goal
 
 abbrev pub invariant-loop-i : goal.invariant-loop-i

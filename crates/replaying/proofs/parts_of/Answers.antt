@@ -1,7 +1,5 @@
 -- `parts_of` meets its contract: each part begins where the one before it ends, and lies within the record.
 use native.Mathlib.Omega.{arith}
-use borrow.Author.Rules.{rules}
-use borrow.Author.Tests.{not-false}
 use Rattle.frame.specs.Places.{BlockAt}
 use Rattle.replaying.proofs.Agreeing.{parts_are}
 use Rattle.replaying.proofs.parts_of.Goals as goal

@@ -3,7 +3,6 @@ use Prim.Native.Nat.{ℕ}
 use mathlib.Core.Path.{◌≡◌}
 use native.Mathlib.Omega.{arith}
 use borrow.Author.Tests.{eqb-true}
-use borrow.Author.Rules.{rules}
 use Rattle.replaying.specs.Agrees.{nobody, the_first, the_second}
 use Rattle.replaying.proofs.Agreeing.{empty, handed}
 use Rattle.replaying.proofs.receiver.Goals as goal

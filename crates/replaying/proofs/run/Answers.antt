@@ -1,6 +1,5 @@
 -- `run` meets its contract: a whole record has a call, which is made, and it is counted once.
 use native.Mathlib.Omega.{arith}
-use borrow.Author.Rules.{rules}
 use mathlib.Core.Path.{refl, sym}
 use lib.ListN.{get_or}
 use Rattle.replaying.specs.Parts.{Whole}
@@ -40,7 +39,6 @@ returns-in-0 c =
     (sym c.in-0.is) c.receiver.ensures) in
     record { single = both.0; agreed = both.1 }
 
-
 pub returns-in-1 : goal.returns-in-1
 returns-in-1 c =
     let whole : Whole c.args.s.now c.in-Whole.p = rw c.in-Whole.is at c.parts_of.ensures in
@@ -48,14 +46,12 @@ returns-in-1 c =
     (sym c.in-1.is) c.supports.ensures) in
     record { single = both.0; agreed = both.1 }
 
-
 pub returns-in-5 : goal.returns-in-5
 returns-in-5 c =
     let whole : Whole c.args.s.now c.in-Whole.p = rw c.in-Whole.is at c.parts_of.ensures in
     let both = (ran whole.is c.sound.result c.compared-in-5.result c.compared-in-5.ensures
     (sym c.in-5.is) c.sound.ensures) in
     record { single = both.0; agreed = both.1 }
-
 
 pub returns-in-2-to-4 : goal.returns-in-2-to-4
 returns-in-2-to-4 c =

@@ -1,6 +1,5 @@
 -- `sound` meets its contract: it stays within the record, and the part of the work area that it lends is as long as is recorded.
 use native.Mathlib.Omega.{arith}
-use borrow.Author.Rules.{rules}
 use lib.ListN.{length, take, length-take}
 use mathlib.Core.Path.{◌≡◌}
 use Rattle.numbers.specs.Words.{word}

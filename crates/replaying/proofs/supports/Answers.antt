@@ -4,7 +4,6 @@ use lib.ListN.{length, take, length-take}
 use mathlib.Core.Path.{◌≡◌}
 use Rattle.numbers.specs.Words.{word}
 use Rattle.replaying.proofs.Agreeing.{supported}
-use borrow.Author.Rules.{rules}
 use Rattle.replaying.proofs.supports.Goals as goal
 
 pub slice_bounds-supports-end-2 : goal.slice_bounds-supports-end-2

@@ -1,7 +1,6 @@
 -- `writing` meets its contract: it lends buffers that are as long as is recorded.
 use native.Mathlib.Omega.{arith}
 use lib.ListN.{length-take}
-use borrow.Author.Rules.{rules}
 use Rattle.replaying.proofs.writing.Goals as goal
 
 pub slice_bounds-written-end : goal.slice_bounds-written-end

@@ -2,10 +2,8 @@
 use Prim.Native.Nat.{ℕ}
 use mathlib.Core.Path.{◌≡◌}
 use native.Mathlib.Omega.{arith}
-use borrow.Author.Tests.{not-false}
 use lib.ListN.{get_or, length-replicate}
 use Rattle.replaying.proofs.Agreeing.{wrote}
-use borrow.Author.Rules.{rules}
 use Rattle.replaying.proofs.written.Goals as goal
 
 pub returns-then-not-answered : goal.returns-then-not-answered

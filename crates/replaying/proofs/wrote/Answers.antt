@@ -2,8 +2,6 @@
 use Prim.Native.Nat.{ℕ}
 use mathlib.Core.Path.{◌≡◌}
 use native.Mathlib.Omega.{arith}
-use borrow.Author.Tests.{not-false}
-use borrow.Author.Rules.{rules}
 use Rattle.replaying.proofs.wrote.Goals as goal
 
 pub returns-then-not-begins : goal.returns-then-not-begins

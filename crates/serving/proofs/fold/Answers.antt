@@ -2,7 +2,6 @@
 -- nodes follows from what the call is defined to give.
 use mathlib.Core.Path.{◌≡◌, refl, ◌∙◌}
 use lib.ListN.{length}
-use borrow.Author.Rules.{rules}
 use Rattle.definitions.proofs.Written.{Bytes}
 use Rattle.stream.specs.declared.Found.TheVariants.{Stream}
 use Rattle.inputs.specs.Inputs.{Met}
@@ -31,8 +30,8 @@ returns-then-t-ne0 c =
     let output = a.output.now in
     let n = length a.rep.now in
     let both =
-        with_promise a.table.now (length a.work.now) a.list.now bytes output n
-        (fold_refused a.table.now (length a.work.now) a.list.now met output n c.if-t-ne0.true c.refuse.ensures) in
+    with_promise a.table.now (length a.work.now) a.list.now bytes output n
+    (fold_refused a.table.now (length a.work.now) a.list.now met output n c.if-t-ne0.true c.refuse.ensures) in
     record { gives = both.0; promised = both.1 }
 
 pub slice_bounds-fold_loaded-end : goal.slice_bounds-fold_loaded-end
@@ -78,6 +77,6 @@ returns c =
     let output = a.output.now in
     let rep = a.rep.now in
     let both =
-        with_promise a.table.now (length a.work.now) a.list.now bytes output (length rep)
-        (fold_given a.table.now (length a.work.now) a.list.now met c.if-t-ne0.false bytes output rep c.fold_loaded.ensures) in
+    with_promise a.table.now (length a.work.now) a.list.now bytes output (length rep)
+    (fold_given a.table.now (length a.work.now) a.list.now met c.if-t-ne0.false bytes output rep c.fold_loaded.ensures) in
     record { gives = both.0; promised = both.1 }

@@ -1,5 +1,4 @@
 -- `fold_loaded` meets its contract: what folding the list's nodes came to is given back.
-use borrow.Author.Rules.{rules}
 use Rattle.serving.proofs.FoldCalls.{fold_reached, list_given}
 use Rattle.serving.proofs.fold_loaded.Goals as goal
 

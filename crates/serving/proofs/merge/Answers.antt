@@ -1,7 +1,6 @@
 -- `merge` meets its contract: the refusals come in their order; two Buffers or two Memories are merged as the usages that were read, and
 -- of other tops the first stays.
 use mathlib.Core.Path.{◌≡◌, ◌∙◌}
-use borrow.Author.Rules.{rules}
 use lib.ListN.{length, get_or}
 use Rattle.definitions.proofs.Written.{Bytes}
 use Rattle.inputs.specs.Inputs.{Good, Met}

@@ -1,6 +1,5 @@
 -- `place` meets its contract: the refusals come in their order, and what is placed are the usages that were read.
 use mathlib.Core.Path.{◌≡◌, ◌∙◌}
-use borrow.Author.Rules.{rules}
 use lib.ListN.{length}
 use Rattle.definitions.proofs.Written.{Bytes}
 use Rattle.inputs.specs.Inputs.{Good, Met}

@@ -1,5 +1,4 @@
 -- `place_loaded` meets its contract: the usages that were read are loaded, and what comes of them is given back.
-use borrow.Author.Rules.{rules}
 use Rattle.place_states.specs.Calls.{placing}
 use Rattle.serving.proofs.Pairs.{both, merges, near, placing_few, reachable, given}
 use Rattle.serving.proofs.place_loaded.Goals as goal

@@ -1,7 +1,6 @@
 -- `sound` meets its contract: the refusals come in their order, and what is tested is the usage that was read.
 use mathlib.Core.Path.{◌∙◌}
 use native.Mathlib.Omega.{arith}
-use borrow.Author.Rules.{rules}
 use borrow.Author.Tests.{not-true, not-false}
 use lib.ListN.{length}
 use Rattle.serving.proofs.Memories.{Memory, found, lost}

@@ -1,25 +1,11 @@
 -- Each step of support takes an earlier type or a smaller usage: the measure is the type and the nodes of the usage, and the
 -- functions that hand both on come in the order of their calls. What is remembered stays true on the way.
-use borrow.Author.Rules.{rules}
-use borrow.Author.Tests.{not-true, not-false}
-use mathlib.Core.Path.{refl, ◌∙◌}
-use native.Mathlib.Omega.{arith}
-use Prim.Native.Nat.{ℕ, ◌+◌, ◌*◌, ◌-◌, ◌<◌}
-use mathlib.Core.List.{List}
-use Rattle.links.specs.Rows.{chain, nodes_at}
-use Rattle.layout.proofs.Uses.{component_below}
-use Rattle.support_memory.specs.Nodes.{Child, Child.element}
-use Rattle.support_memory.proofs.Staying.{unchanged_both, next_stays}
-use Rattle.support_memory.proofs.Linked.{Linked, nodes_stay, element_usage, element_smaller, first_linked, next_linked, chain_falls, entry_usage, entry_smaller, entry_child}
-use Rattle.support.proofs.Types.{concrete_type, asks_earlier, asks_concrete}
-use Rattle.support.proofs.Components.{AskedFrom, asked_first, none_asked, one_asked, more_asked, next_later}
-use Rattle.support.proofs.Entries.{Walked, walk_starts, walk_goes_on, walk_stops, walk_ends, asks_entry}
-use Rattle.support.proofs.OneEntry.{entry_past, entry_asked}
-use Rattle.support.proofs.Elements.{other_stride, between_elements, other_length, by_element}
-use Rattle.support.proofs.Itself.{by_entries, not_by_leaf, not_by_scalar, not_by_fields, element_known, asks_elements, by_elements}
-use Rattle.support.proofs.Whole.{asks_either, not_parts, says_whole, whole_says, said_no, said_yes, said_open, recalls_no, recalls_yes, part_says, parts_refuse, itself_says}
-use Rattle.support.proofs.Staying.{supports_after, supports_before, entry_before, itself_before, open_after, asks_after, concrete_after}
-use Rattle.support.proofs.Remembering.{Turned, turned_none, turned_more, kept_none, kept_both, memory_after, memory_part, type_few, remembered_kept}
+use Prim.Native.Nat.{◌+◌, ◌-◌}
+use Rattle.links.specs.Rows.{chain}
+use Rattle.support_memory.proofs.Linked.{Linked}
+use Rattle.support.proofs.Components.{AskedFrom}
+use Rattle.support.proofs.Entries.{Walked}
+use Rattle.support.proofs.Remembering.{Turned}
 use Rattle.support.proofs.Measure.{together}
 use Rattle.support.proofs.+support.Given as goal
 

@@ -1,5 +1,4 @@
 -- The usage's end is past the size, or it has none.
-use borrow.Author.Rules.{rules}
 use Rattle.support.proofs.outside.Goals as goal
 
 pub returns-in-Fixed : goal.returns-in-Fixed

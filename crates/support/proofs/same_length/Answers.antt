@@ -2,7 +2,6 @@
 use Prim.Native.Nat.{◌%◌}
 use native.Mathlib.Omega.{arith}
 use native.Mathlib.Nat.{div-le_self}
-use borrow.Author.Rules.{rules}
 use borrow.Author.Tests.{eq-eqb, ne_eqb, lt-ltb, le-ltb}
 use Rattle.support.proofs.same_length.Goals as goal
 

@@ -1,5 +1,4 @@
 -- The list begins with nothing.
-use borrow.Author.Rules.{rules}
 use Rattle.support.proofs.Remembering.{blank_memory}
 use Rattle.support.proofs.Whole.{whole_says}
 use Rattle.support.proofs.Types.{asks_concrete}

@@ -1,5 +1,4 @@
 -- Without a dynamic stride the size decides, and else nothing is too large.
-use borrow.Author.Rules.{rules}
 use borrow.Author.Tests.{eq-eqb, ne_eqb}
 use Rattle.support.proofs.too_large.Goals as goal
 

@@ -1,9 +1,8 @@
 -- What is below a node has fewer nodes than it: the measure is their number, and a node comes before what is below it.
-use Rattle.std.proofs.Common.{ℕ, ◌+◌, ◌*◌, ◌<◌, arith, rules}
-use Rattle.links.specs.Rows.{chain, nodes_at}
+use Rattle.std.proofs.Common.{arith, rules}
 use Rattle.support_memory.proofs.Staying.{unchanged_marked, usage_after}
 use Rattle.support_memory.proofs.Linked.{nodes_stay}
-use Rattle.support_memory.proofs.Forgetting.{Going, going_first, going_usage, going_fewer, going_within, going_element, going_next, going_falls, going_over, forgot_leaf, forgot_all}
+use Rattle.support_memory.proofs.Forgetting.{going_first, going_usage, going_fewer, going_within, going_element, going_next, going_falls, going_over, forgot_leaf, forgot_all}
 use Rattle.support_memory.proofs.+forgetting.Goals as goal
 
 pub forget_below-loop-e-init : goal.forget_below-loop-e-init

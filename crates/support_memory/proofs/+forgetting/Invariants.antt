@@ -1,9 +1,7 @@
 -- What is below a node has fewer nodes than it: the measure is their number, and a node comes before what is below it.
-use Rattle.std.proofs.Common.{ℕ, ◌+◌, ◌*◌, ◌<◌, arith, rules}
+use Rattle.std.proofs.Common.{◌+◌, ◌*◌}
 use Rattle.links.specs.Rows.{chain, nodes_at}
-use Rattle.support_memory.proofs.Staying.{unchanged_marked, usage_after}
-use Rattle.support_memory.proofs.Linked.{nodes_stay}
-use Rattle.support_memory.proofs.Forgetting.{Going, going_first, going_usage, going_fewer, going_within, going_element, going_next, going_falls, going_over, forgot_leaf, forgot_all}
+use Rattle.support_memory.proofs.Forgetting.{Going}
 use Rattle.support_memory.proofs.+forgetting.Given as goal
 
 abbrev pub decreases-forget_below : goal.decreases-forget_below

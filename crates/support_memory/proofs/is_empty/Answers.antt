@@ -1,5 +1,4 @@
 -- `is_empty` meets its contract: the command is asked, and then the size.
-use Rattle.std.proofs.Common.{rules}
 use Rattle.records.specs.Records.{command_in, size_in}
 use Rattle.support_memory.proofs.Empties.{empty_unused, empty_dynamic, empty_fixed}
 use Rattle.support_memory.proofs.is_empty.Goals as goal

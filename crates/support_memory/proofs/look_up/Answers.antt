@@ -1,5 +1,5 @@
 -- The two words of the place are those of the question.
-use Rattle.std.proofs.Common.{true, false, arith, rules}
+use Rattle.std.proofs.Common.{true, false, arith}
 use Rattle.support_memory.proofs.Marking.{listed}
 use Rattle.support_memory.proofs.look_up.Goals as goal
 

@@ -1,5 +1,5 @@
 -- A tag as it is defined, by the answer.
-use Rattle.std.proofs.Common.{refl, rules}
+use Rattle.std.proofs.Common.{refl}
 use Rattle.support_memory.proofs.tag_of.Goals as goal
 
 pub returns-then-yes : goal.returns-then-yes
