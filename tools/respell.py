@@ -1,10 +1,11 @@
 #!/usr/bin/env python3
-"""Spells this repository's own definitions, lemmas, fields and variables in snake case.
+"""Spells this repository's own definitions, lemmas, fields and variables in snake case, and calls the choice `when .. then .. else ..`.
 
 usage: python3 tools/respell.py [--list]      at the top of the repository, once, after /opt/rattle/port/port.py
 
 A name of ours is one that a file of specs/ or proofs/ declares, or a name in camel case that no library has. What a function of src/ is called, what Rattle
 makes (goals such as returns-2) and what the libraries declare stay. Must-fail edits and the names in docs/ follow, also those that port.py turned.
+The library has an operator `if .. then .. else ..` of its own now, and no repository may have another of that name.
 """
 import os
 import re
@@ -121,6 +122,23 @@ def respell(text, turn, keep=frozenset()):
     return NAME.sub(lambda m: turn[m.group(0)] if m.group(0) in turn and m.group(0) not in keep else m.group(0), text)
 
 
+CHOICE = re.compile(r"(?<![\w.'◌-])if(?![\w'◌-])|if(?=◌then◌else◌)")
+
+
+def choice(text):
+    """The choice under its own name, outside of comments."""
+    out = []
+    for line in text.split("\n"):
+        code, dashes, comment = line.partition("--")
+        out.append(CHOICE.sub("when", code) + dashes + comment)
+    return "\n".join(out)
+
+
+def choice_in_edit(text):
+    """The same in an edit of specs/ or proofs/."""
+    return choice(text) if re.match(r"file: \S+\.antt", text) else text
+
+
 def turned_by_port():
     """Names that port.py itself turned: 'name-of' or 'nameOf' is now 'name_of'."""
     turn = {}
@@ -144,13 +162,15 @@ def main():
         text = read(path)
         keep = local_goals(text) if function_proof(path) else frozenset()
         new = respell(text, APART_IN.get(path, {}) | turn, keep)
+        if path.endswith(".antt"):
+            new = choice(new)
         if new != text:
             with open(path, "w", encoding="utf-8") as f:
                 f.write(new)
     more = turned_by_port() | turn
     for path in files(".edit"):
         text = read(path)
-        new = respell(text, more)
+        new = choice_in_edit(respell(text, more))
         if new != text:
             with open(path, "w", encoding="utf-8") as f:
                 f.write(new)

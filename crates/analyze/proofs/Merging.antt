@@ -6,7 +6,7 @@ use mathlib.Core.Path.{◌≡◌, refl, sym, ◌∙◌}
 use mathlib.Core.Bool.{Bool, true, false}
 use mathlib.Core.List.{List}
 use native.Mathlib.Omega.{arith}
-use Rattle.definitions.specs.If.{if◌then◌else◌}
+use Rattle.definitions.specs.If.{when◌then◌else◌}
 use Rattle.definitions.specs.Usage.{Usage, unused, leaf, map, array, none, size}
 use Rattle.definitions.specs.Command.{head_of, strictness}
 use Rattle.definitions.specs.Table.{Setting}
@@ -44,7 +44,7 @@ bare_receives : (u v : Usage) → first_receives (bare u) (bare v) ≡ first_rec
 bare_receives u v = rw (bare_size u, bare_size v, bare_strictness u, bare_strictness v)
 
 bare_stands : (u : Usage) {s : List ℕ} {q : ℕ} {r : ℕ → ℕ} {lo hi : ℕ} {x : Node} → Root s q r lo hi (head_of u).command (size u) → Top s q x → IsNode x (bare u)
-unfolding if◌then◌else◌
+unfolding when◌then◌else◌
 bare_stands (unused z) H T = T.part ∙ rw (H.command, H.size)
 bare_stands (leaf z true t) H T = T.part ∙ rw (H.command, H.size)
 bare_stands (leaf z false t) H T = T.part ∙ rw (H.command, H.size)
@@ -92,11 +92,11 @@ ready_swap R = record {
 
 module _ (setting : Setting) (a b : Usage) where
   merges_left : first_receives a b ≡ true → place setting a 0 b ≡ merge_mem setting a b
-  unfolding merge_mem if◌then◌else◌
+  unfolding merge_mem when◌then◌else◌
   merges_left e = rw e
 
   merges_right : first_receives a b ≡ false → place setting b 0 a ≡ merge_mem setting a b
-  unfolding merge_mem if◌then◌else◌
+  unfolding merge_mem when◌then◌else◌
   merges_right e = rw e
 
 -- what began with the ranks exchanged began with them as they were

@@ -7,7 +7,7 @@ use mathlib.Core.List.{List, []}
 use mathlib.Core.Option.{Option, none as nothing, some}
 use native.Mathlib.Omega.{arith}
 use borrow.Author.Tests.{lt-ltb, le-ltb}
-use Rattle.definitions.specs.If.{if◌then◌else◌}
+use Rattle.definitions.specs.If.{when◌then◌else◌}
 use Rattle.definitions.specs.Limits.{node_limit}
 use Rattle.definitions.specs.Usage.{nodes}
 use Rattle.definitions.specs.Stream.{memory_of}
@@ -30,11 +30,11 @@ module _ (first second : List ℕ) where
 
     module _ {m : ℕ} {y : Node} (b : RootOf second m y) where
       pub too_many : node_limit < n + m → receiver_of first second ≡ refused 7
-      unfolding receiver_of if◌then◌else◌
+      unfolding receiver_of when◌then◌else◌
       too_many h = rw (a.is, b.is, lt-ltb node_limit (nodes a.usage + nodes b.usage) (omega arith))
 
       pub received : n + m ≤ node_limit → {r : Bool} → Receives x y r → receiver_of first second ≡ done r [] 0
-      unfolding receiver_of if◌then◌else◌
+      unfolding receiver_of when◌then◌else◌
       received h says =
           rw (a.is, b.is, le-ltb node_limit (nodes a.usage + nodes b.usage) (omega arith), says.of a.usage b.usage a.own b.own)
 

@@ -2,7 +2,7 @@
 -- Assumes nothing.
 use Rattle.std.proofs.Common.{◌≡◌, ℕ, ◌+◌, ◌-◌, ◌<◌, ◌≤◌, ltb, List, length, drop, refl, arith, length-drop, drop-drop, le-ltb, lt-ltb}
 use mathlib.Core.Option.{none as nothing}
-use Rattle.definitions.specs.If.{if◌then◌else◌}
+use Rattle.definitions.specs.If.{when◌then◌else◌}
 use Rattle.definitions.specs.Stream.{broken, whole}
 use Rattle.definitions.proofs.Choice.{either}
 use Rattle.numbers.specs.Words.{word}
@@ -16,11 +16,11 @@ module _ (s : List ℕ) (at : ℕ) where
   prefix_short h = rw (number_short 4 (drop at s) (rw length-drop h))
 
   pub block_short : (n : ℕ) → n ≡ word s at → at + 4 ≤ length s → length s - at - 4 < n → read_block (drop at s) ≡ broken
-  unfolding if◌then◌else◌
+  unfolding when◌then◌else◌
   block_short n e h short = rw (number_at_lem 4 s at (at + 4) refl h, ← e, lt-ltb (length (drop (at + 4) s)) n (rw length-drop (omega arith)))
 
   pub block_whole : (n : ℕ) → n ≡ word s at → at + 4 + n ≤ length s → BlockAt s at (at + 4 + n)
-  unfolding if◌then◌else◌
+  unfolding when◌then◌else◌
   block_whole n e h =
       let long : at + 4 + n - (at + 4) ≡ n = omega arith in
       record {
@@ -37,7 +37,7 @@ unfolding blocks_of
 unread s e = either (λ o. o ≡ nothing) (ltb input_limit (length s)) refl e
 
 pub too_long : (s : List ℕ) → input_limit < length s → blocks_of s ≡ nothing
-unfolding blocks_of if◌then◌else◌
+unfolding blocks_of when◌then◌else◌
 too_long s h = rw (lt-ltb input_limit (length s) h)
 
 pub table_broken : (s : List ℕ) → read_block s ≡ broken → blocks_of s ≡ nothing
@@ -56,7 +56,7 @@ module _ {s : List ℕ} {table : ℕ} (t : BlockAt s 0 table) where
       left_over h = unread s (rw (t.reads, f.reads, b.reads) (whole_not _ s second b.within (omega arith)))
 
       pub framed : length s ≤ input_limit → length s ≤ second → BlocksAt s table first second
-      unfolding blocks_of if◌then◌else◌
+      unfolding blocks_of when◌then◌else◌
       framed few h = record {
         is = rw (le-ltb input_limit (length s) few, t.reads, f.reads, b.reads) (whole_all _ s second (omega arith));
         table_some = t.some;

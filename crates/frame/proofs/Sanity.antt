@@ -1,7 +1,7 @@
 -- The printed example of document 01, computed: O8[0:D4,1] with D8,2, and an input with a byte left over.
 -- Assumes nothing.
 use Rattle.std.proofs.Common.{◌≡◌, ℕ, List, [], ◌∷◌, ◌++◌, refl}
-use Rattle.definitions.specs.If.{if◌then◌else◌}
+use Rattle.definitions.specs.If.{when◌then◌else◌}
 use Rattle.definitions.specs.Command.{command_at}
 use Rattle.definitions.specs.Stream.{read_node_in, read_node, top_of}
 use Rattle.definitions.specs.Table.{table_of}
@@ -34,9 +34,9 @@ printed =
     0x32 ∷ 0x0A ∷ []
 
 example : line_of (table ++ first ++ second) ≡ printed
-unfolding line_of blocks_of zeros merge_call table_of top_of read_node read_node_in merge_mem place place_in supports supports_in command_at if◌then◌else◌
+unfolding line_of blocks_of zeros merge_call table_of top_of read_node read_node_in merge_mem place place_in supports supports_in command_at when◌then◌else◌
 example = refl
 
 one_too_many : line_of (table ++ first ++ second ++ 0 ∷ []) ≡ 0x66 ∷ 0x72 ∷ 0x61 ∷ 0x6D ∷ 0x65 ∷ 0x0A ∷ []
-unfolding line_of blocks_of if◌then◌else◌
+unfolding line_of blocks_of when◌then◌else◌
 one_too_many = refl

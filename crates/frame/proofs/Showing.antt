@@ -1,7 +1,7 @@
 -- Digits of numbers and of bytes, one behind another.
 -- Assumes nothing.
 use Rattle.std.proofs.Common.{◌≡◌, ℕ, zero, suc, ◌+◌, ◌-◌, ◌/◌, ◌%◌, ◌<◌, ◌≤◌, List, [], ◌∷◌, ◌++◌, length, get_or, take, refl, add-one, arith, take_all, take-suc, le-ltb, lt-ltb}
-use Rattle.definitions.specs.If.{if◌then◌else◌}
+use Rattle.definitions.specs.If.{when◌then◌else◌}
 use Rattle.frame.specs.Put.{Put}
 use Rattle.frame.proofs.Putting.{put_after}
 use Rattle.frame.specs.Frame.{digits_in, hex_digit, hex_digits, hex}
@@ -10,23 +10,23 @@ pub no_digits : (most n : ℕ) → most ≡ 0 → digits_in most n ≡ []
 no_digits most n e = rw e
 
 pub one_digit : (most n : ℕ) → (most ≡ 0 → ⊥) → n < 10 → digits_in most n ≡ (0x30 + n) ∷ []
-unfolding if◌then◌else◌
+unfolding when◌then◌else◌
 one_digit zero n some h = absurd (some refl)
 one_digit (suc most) n some h = rw (lt-ltb n 10 h)
 
 pub more_digits : (most n : ℕ) → (most ≡ 0 → ⊥) → 10 ≤ n → digits_in most n ≡ digits_in (most - 1) (n / 10) ++ (0x30 + n % 10) ∷ []
-unfolding if◌then◌else◌
+unfolding when◌then◌else◌
 more_digits zero n some h = absurd (some refl)
 more_digits (suc most) n some h =
     let less : suc most - 1 ≡ most = omega arith in
     rw (le-ltb n 10 h, less)
 
 pub low_digit : (n : ℕ) → n < 10 → 0x30 + n ≡ hex_digit n
-unfolding if◌then◌else◌
+unfolding when◌then◌else◌
 low_digit n h = rw (lt-ltb n 10 h)
 
 pub high_digit : (n : ℕ) → 10 ≤ n → 0x57 + n ≡ hex_digit n
-unfolding if◌then◌else◌
+unfolding when◌then◌else◌
 high_digit n h = rw (le-ltb n 10 h)
 
 hex_append : (xs ys : List ℕ) → hex_digits (xs ++ ys) ≡ hex_digits xs ++ hex_digits ys

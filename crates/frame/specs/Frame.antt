@@ -2,7 +2,7 @@
 -- Assumes nothing.
 use Rattle.std.specs.Prelude.{◌≡◌, ℕ, zero, suc, ◌+◌, ◌*◌, ◌/◌, ◌%◌, ◌≤◌, List, [], ◌∷◌, ◌++◌, length, take, drop, replicate, nat_lt}
 use Rattle.std.proofs.Math.Option.{Option, none as nothing, some}
-use Rattle.definitions.specs.If.{if◌then◌else◌}
+use Rattle.definitions.specs.If.{when◌then◌else◌}
 use Rattle.definitions.specs.Limits.{work_limit}
 use Rattle.definitions.specs.Stream.{Read, broken, read, ◌then◌, number, whole}
 use Rattle.definitions.specs.Calls.{Written, merge_call}
@@ -18,7 +18,7 @@ abbrev pub input_limit : ℕ
 input_limit = 65536
 
 abbrev pub read_block : List ℕ → Read (List ℕ)
-read_block bs = number 4 bs then λ n rest. if nat_lt (length rest) n then broken else read (take n rest) (drop n rest)
+read_block bs = number 4 bs then λ n rest. when nat_lt (length rest) n then broken else read (take n rest) (drop n rest)
 
 abbrev pub read_blocks : List ℕ → Read Blocks
 read_blocks bs =
@@ -28,14 +28,14 @@ read_blocks bs =
     read (record { table = t; first = f; second = s }) rest
 
 unfoldable pub blocks_of : List ℕ → Option Blocks
-blocks_of bs = if nat_lt input_limit (length bs) then nothing else whole (read_blocks bs)
+blocks_of bs = when nat_lt input_limit (length bs) then nothing else whole (read_blocks bs)
 
 -- The line: number, pairings, output and report, and its end
 
 -- a number's digits, of which there are at most f
 abbrev pub digits_in : ℕ → ℕ → List ℕ
 digits_in zero n = []
-digits_in (suc f) n = if nat_lt n 10 then (0x30 + n) ∷ [] else digits_in f (n / 10) ++ (0x30 + n % 10) ∷ []
+digits_in (suc f) n = when nat_lt n 10 then (0x30 + n) ∷ [] else digits_in f (n / 10) ++ (0x30 + n % 10) ∷ []
 
 -- a number of 32 bits has at most ten
 abbrev pub digits : ℕ → List ℕ
@@ -43,7 +43,7 @@ digits n = digits_in 10 n
 
 -- 0 to 9, and then a to f
 abbrev pub hex_digit : ℕ → ℕ
-hex_digit n = if nat_lt n 10 then 0x30 + n else 0x57 + n
+hex_digit n = when nat_lt n 10 then 0x30 + n else 0x57 + n
 
 abbrev pub hex_digits : List ℕ → List ℕ
 hex_digits [] = []

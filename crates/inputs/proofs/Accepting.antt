@@ -10,7 +10,7 @@ use native.Mathlib.Omega.{arith}
 use borrow.Author.Tests.{ltb-true, ltb-false, le-leb, lt-leb}
 use lib.Dec.{ltb, leb}
 use lib.ListN.{length}
-use Rattle.definitions.specs.If.{if◌then◌else◌}
+use Rattle.definitions.specs.If.{when◌then◌else◌}
 use Rattle.definitions.specs.Limits.{node_limit, work_limit}
 use Rattle.definitions.specs.Table.{Table, Setting, table_of}
 use Rattle.definitions.specs.Place.{Result, refused}
@@ -25,11 +25,11 @@ use Rattle.inputs.proofs.Refusals.{short_work, bad_table, table_read, unknown_ty
 -- 5 and 7 as the numbers say
 
 abbrev numbers_refusal : Bool → Bool → ℕ
-numbers_refusal unknown many = if unknown then 5 else if many then 7 else 0
+numbers_refusal unknown many = when unknown then 5 else when many then 7 else 0
 
 numbers : {C : Type 0} (bound types n : ℕ) (r : Result C) (p : Bool) → ltb types bound ≡ p → (q : Bool) → ltb node_limit n ≡ q
     → (numbers_refusal p q ≡ 0 → ⊥) → checked (leb bound types) n r ≡ refused (numbers_refusal p q)
-unfolding if◌then◌else◌
+unfolding when◌then◌else◌
 numbers bound types n r true e q f not0 = unknown_type (leb bound types) n r (lt-leb bound types (ltb-true types bound e))
 numbers bound types n r false e true f not0 = many_nodes (leb bound types) n r (le-leb bound types (ltb-false types bound e)) (ltb-true node_limit n f)
 numbers bound types n r false e false f not0 = absurd (not0 refl)
@@ -66,9 +66,9 @@ module _ {A B C : Type 0} (n k : A → ℕ) (m l : B → ℕ) (next : Setting �
     of_table nothing e enough not0 = bad_table (body x y) work table enough e
     of_table (some t) e enough not0 = table_read (body x y) work table enough e ∙ of_streams t x y not0
 
-    of_work : (p : Bool) → ltb work work_limit ≡ p → ((if p then 1 else table_refusal (table_of table) (told n k x) (told m l y)) ≡ 0 → ⊥)
-        → with_table work table (body x y) ≡ refused (if p then 1 else table_refusal (table_of table) (told n k x) (told m l y))
-    unfolding if◌then◌else◌
+    of_work : (p : Bool) → ltb work work_limit ≡ p → ((when p then 1 else table_refusal (table_of table) (told n k x) (told m l y)) ≡ 0 → ⊥)
+        → with_table work table (body x y) ≡ refused (when p then 1 else table_refusal (table_of table) (told n k x) (told m l y))
+    unfolding when◌then◌else◌
     of_work true e not0 = short_work (body x y) work table (ltb-true work work_limit e)
     of_work false e not0 = of_table (table_of table) refl (ltb-false work work_limit e) not0
 

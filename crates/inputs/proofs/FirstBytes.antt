@@ -8,7 +8,7 @@ use mathlib.Core.Option.{some}
 use native.Mathlib.Omega.{arith}
 use borrow.Author.Tests.{ne_eqb, eq-eqb}
 use lib.ListN.{length, get_or}
-use Rattle.definitions.specs.If.{if◌then◌else◌}
+use Rattle.definitions.specs.If.{when◌then◌else◌}
 use Rattle.definitions.specs.Usage.{Top, opaque, buffer, memory}
 use Rattle.definitions.specs.Command.{command_at, argument_width}
 use Rattle.definitions.specs.Stream.{write_top, top_of}
@@ -66,7 +66,7 @@ module _ (first second : List ℕ) (bytes : Bytes first) (bytes' : Bytes second)
       of st t (memory u) e f = refl
 
   pub other_type : {w : ℕ} → w ≡ argument_width 0x08 → (number_at w first 1 ≡ number_at w second 1 → ⊥) → Conflicts first second 1
-  unfolding if◌then◌else◌
+  unfolding when◌then◌else◌
   other_type width differ = record { small = omega arith; of = of }
     where
       of : (st : Setting) (t : ℕ) (b : Top) → top_of first ≡ some (opaque t) → top_of second ≡ some b → merge st (opaque t) b ≡ unlike (opaque t)
@@ -75,7 +75,7 @@ module _ (first second : List ℕ) (bytes : Bytes first) (bytes' : Bytes second)
       of st t (memory u) e f = refl
 
   pub same_opaque : {w : ℕ} → w ≡ argument_width 0x08 → get_or first 0 0 ≡ get_or second 0 0 → number_at w first 1 ≡ number_at w second 1 → Conflicts first second 0
-  unfolding if◌then◌else◌
+  unfolding when◌then◌else◌
   same_opaque width same same-type = record { small = omega arith; of = of }
     where
       of : (st : Setting) (t : ℕ) (b : Top) → top_of first ≡ some (opaque t) → top_of second ≡ some b → merge st (opaque t) b ≡ done (opaque t) [] 0

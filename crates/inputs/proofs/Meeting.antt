@@ -7,7 +7,7 @@ use mathlib.Core.List.{List}
 use mathlib.Core.Option.{none as nothing}
 use native.Mathlib.Omega.{arith}
 use borrow.Author.Tests.{lt-ltb, le-ltb}
-use Rattle.definitions.specs.If.{if◌then◌else◌}
+use Rattle.definitions.specs.If.{when◌then◌else◌}
 use Rattle.definitions.specs.Limits.{node_limit, work_limit}
 use Rattle.definitions.specs.Table.{table_of}
 use Rattle.stream.specs.declared.Found.{Found}
@@ -23,16 +23,16 @@ refused_as k some is told = record { number = told ∙ sym is; good = λ none. a
 
 module _ (table : List ℕ) (work : ℕ) (a b : Found) (places : List ℕ) {r : Inputs} where
   pub meets_1 : work < work_limit → r.refusal ≡ 1 → Met table work a b places r
-  unfolding if◌then◌else◌
+  unfolding when◌then◌else◌
   meets_1 short told = refused_as 1 (omega arith) (rw (lt-ltb work work_limit short)) told
 
   pub meets_2 : work_limit ≤ work → table_of table ≡ nothing → r.refusal ≡ 2 → Met table work a b places r
-  unfolding if◌then◌else◌
+  unfolding when◌then◌else◌
   meets_2 enough bad told = refused_as 2 (omega arith) (rw (le-ltb work work_limit enough, bad)) told
 
 module _ {table places : List ℕ} {work k : ℕ} (t : Begun table work places k) where
   with_table_lem : (a b : Found) → inputs_refusal work (table_of table) a b ≡ streams_refusal k a b
-  unfolding if◌then◌else◌
+  unfolding when◌then◌else◌
   with_table_lem a b = rw (le-ltb work work_limit t.enough, t.is, t.counted)
 
 module _ {table places : List ℕ} {work k : ℕ} (t : Begun table work places k) {a b : Found} where
@@ -45,16 +45,16 @@ module _ {table places : List ℕ} {work k : ℕ} (t : Begun table work places k
 
     module _ {m y : ℕ} (second : b ≡ Stream m y) where
       pub meets_5 : {r : Inputs} → k < max x y → r.refusal ≡ 5 → Met table work a b places r
-      unfolding if◌then◌else◌
+      unfolding when◌then◌else◌
       meets_5 unknown told = refused_as 5 (omega arith) (with_table_lem t a b ∙ rw (first, second, lt-ltb k (max x y) unknown)) told
 
       module _ (x-known : x ≤ k) (y-known : y ≤ k) where
         pub meets_7 : {r : Inputs} → node_limit < n + m → r.refusal ≡ 7 → Met table work a b places r
-        unfolding if◌then◌else◌
+        unfolding when◌then◌else◌
         meets_7 many told = refused_as 7 (omega arith) (with_table_lem t a b ∙ rw (first, second, le-ltb k (max x y) (omega arith), lt-ltb node_limit (n + m) many)) told
 
         pub meets_none : n + m ≤ node_limit → Met table work a b places (record { refusal = 0; first = n; second = m })
-        unfolding if◌then◌else◌
+        unfolding when◌then◌else◌
         meets_none few = record {
           number = sym (with_table_lem t a b ∙ rw (first, second, le-ltb k (max x y) (omega arith), le-ltb node_limit (n + m) few));
           good = λ _. record {

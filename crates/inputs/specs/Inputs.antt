@@ -2,7 +2,7 @@
 -- Assumes nothing.
 use Rattle.std.specs.Prelude.{ℕ, max, ◌+◌, ◌*◌, ◌≤◌, ◌≡◌, List, [], ltb, length, drop}
 use Rattle.std.proofs.Math.Option.{Option, none as nothing, some}
-use Rattle.definitions.specs.If.{if◌then◌else◌}
+use Rattle.definitions.specs.If.{when◌then◌else◌}
 use Rattle.definitions.specs.Limits.{node_limit, work_limit}
 use Rattle.definitions.specs.Usage.{Usage, nodes}
 use Rattle.definitions.specs.Stream.{read, read_node}
@@ -19,8 +19,8 @@ abbrev pub streams_refusal : ℕ → Found → Found → ℕ
 streams_refusal types Broken b = 3
 streams_refusal types (Stream n k) Broken = 4
 streams_refusal types (Stream n k) (Stream m l) =
-    if ltb types (max k l) then 5
-    else if ltb node_limit (n + m) then 7
+    when ltb types (max k l) then 5
+    else when ltb node_limit (n + m) then 7
     else 0
 
 abbrev pub table_refusal : Option Table → Found → Found → ℕ
@@ -28,7 +28,7 @@ table_refusal nothing a b = 2
 table_refusal (some t) a b = streams_refusal (length t) a b
 
 abbrev pub inputs_refusal : ℕ → Option Table → Found → Found → ℕ
-inputs_refusal work t a b = if ltb work work_limit then 1 else table_refusal t a b
+inputs_refusal work t a b = when ltb work work_limit then 1 else table_refusal t a b
 
 -- none: the table's records stand at these places, and the streams have so many nodes, few enough, with types of the table
 pub record Good (table : List ℕ) (work : ℕ) (a b : Found) (places : List ℕ) (n m : ℕ) : Type 0 where

@@ -11,7 +11,7 @@ use mathlib.Core.Option.{none as nothing}
 use lib.ListN.{length, get_or, set, drop, length-append, length-set, get_or-append, drop_of_length-le}
 use lib.Seq.{take-append-le, take_at, get_or_at, get_or-set_same, get_or-set_other, drop-cons}
 use borrow.Author.Tests.{lt-ltb, le-ltb, not-true, not-false}
-use Rattle.definitions.specs.If.{if◌then◌else◌}
+use Rattle.definitions.specs.If.{when◌then◌else◌}
 use Rattle.definitions.specs.Stream.{broken, read}
 use Rattle.definitions.specs.Table.{Table, TypeLayout as Layout, failed, read_layout, read_records, read_table, admitted, table_of}
 use Rattle.numbers.proofs.Numbers.{number_at_lem, number_short}
@@ -92,11 +92,11 @@ pub no_count : (s : List ℕ) → length s < 2 → table_of s ≡ nothing
 no_count s h = refused s (rw (number_short 2 s h))
 
 pub many_records : (s : List ℕ) (count : ℕ) → 2 ≤ length s → count ≡ record_count s → 1024 < count → table_of s ≡ nothing
-unfolding if◌then◌else◌
+unfolding when◌then◌else◌
 many_records s count h e m = refused s (rw (number_at_lem 2 s 0 2 refl h, ← e, lt-ltb 1024 count m))
 
 pub first_record : (s places : List ℕ) (count : ℕ) → Room s places → 2 ≤ length s → count ≡ record_count s → count ≤ 1024 → Reading s places count 2 0
-unfolding if◌then◌else◌
+unfolding when◌then◌else◌
 first_record s places count w h e m =
     let z : count - 0 ≡ count = omega arith in
     record {
@@ -127,11 +127,11 @@ module _ {s places : List ℕ} {count at n : ℕ} (h : Reading s places count at
       judged = sym (a.is h.table h.stand whole.layout _ whole.stands)
 
       pub not_admitted : not b ≡ true → table_of s ≡ nothing
-      unfolding if◌then◌else◌
+      unfolding when◌then◌else◌
       not_admitted f = refused s (rw (turn l, whole.stands, judged ∙ not-true b f))
 
       pub next_record : not b ≡ false → Reading s (set places n at) count end (n + 1)
-      unfolding if◌then◌else◌
+      unfolding when◌then◌else◌
       next_record f =
           let w = whole in
           record {

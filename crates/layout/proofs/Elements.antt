@@ -8,7 +8,7 @@ use mathlib.Core.List.{List}
 use mathlib.Core.Option.{none as nothing, some}
 use lib.Dec.{ltb, eqb}
 use borrow.Author.Tests.{lt-ltb, le-ltb, le-leb, lt-leb, eq-eqb, ne_eqb}
-use Rattle.definitions.specs.If.{if◌then◌else◌}
+use Rattle.definitions.specs.If.{when◌then◌else◌}
 use Rattle.definitions.specs.Limits.{max32}
 use Rattle.definitions.specs.Table.{Setting, fixed_size}
 use Rattle.definitions.specs.Containment.{at_length, element_size, in_element, in_elements}
@@ -19,10 +19,10 @@ use Rattle.layout.specs.declared.ElementSize.TheVariants.{Bytes, Missing}
 use Rattle.layout.specs.declared.Containing.TheVariants.{In, Nothing}
 
 module _ (n len i : ℕ) where
-  with_length : (len ≡ 0 → ⊥) → element_size n len i ≡ (if ltb i len then some n else if eqb i len then at_length else nothing)
+  with_length : (len ≡ 0 → ⊥) → element_size n len i ≡ (when ltb i len then some n else when eqb i len then at_length else nothing)
   with_length h = go len h
     where
-      go : (len : ℕ) → (len ≡ 0 → ⊥) → element_size n len i ≡ (if ltb i len then some n else if eqb i len then at_length else nothing)
+      go : (len : ℕ) → (len ≡ 0 → ⊥) → element_size n len i ≡ (when ltb i len then some n else when eqb i len then at_length else nothing)
       go zero h = absurd (h refl)
       go (suc len) h = refl
 
@@ -30,15 +30,15 @@ module _ (n len i : ℕ) where
   no_length e = rw e
 
   pub below_length : (len ≡ 0 → ⊥) → i < len → some n ≡ element_size n len i
-  unfolding if◌then◌else◌
+  unfolding when◌then◌else◌
   below_length h l = rw (with_length h, lt-ltb i len l)
 
   pub at_length_lem : (len ≡ 0 → ⊥) → len ≤ i → i ≡ len → (r : ElementSize) → size_in r ≡ at_length → size_in r ≡ element_size n len i
-  unfolding if◌then◌else◌
+  unfolding when◌then◌else◌
   at_length_lem h l e r f = rw (with_length h, le-ltb i len l, eq-eqb i len e) f
 
   pub above_length : (len ≡ 0 → ⊥) → len ≤ i → (i ≡ len → ⊥) → nothing ≡ element_size n len i
-  unfolding if◌then◌else◌
+  unfolding when◌then◌else◌
   above_length h l e = rw (with_length h, le-ltb i len l, ne_eqb i len e)
 
 module _ (b places : List ℕ) (stride elem len s e n : ℕ) (r : ElementSize) (z : Says fixed_size b places elem n) (is : size_in r ≡ element_size n len (s / stride)) where
@@ -52,18 +52,18 @@ module _ (b places : List ℕ) (stride elem len s e n : ℕ) (r : ElementSize) (
 
   module _ {m : ℕ} (y : r ≡ Bytes m) where
     pub element_past_32_bits : max32 - s / stride * stride < m → InElements b places stride elem len s e Nothing
-    unfolding if◌then◌else◌
+    unfolding when◌then◌else◌
     element_past_32_bits h = record {
       type = tt;
       is = λ st p. rw (by_size y st p, lt-leb (s / stride * stride + m) max32 (omega arith), and-false);
     }
 
     pub ends_before : s / stride * stride + m < e → InElements b places stride elem len s e Nothing
-    unfolding if◌then◌else◌
+    unfolding when◌then◌else◌
     ends_before h = record { type = tt; is = λ st p. rw (by_size y st p, lt-leb e (s / stride * stride + m) h) }
 
     pub in_element_lem : s / stride * stride + m ≤ max32 → e ≤ s / stride * stride + m → InElements b places stride elem len s e (In elem (s % stride) 1)
-    unfolding if◌then◌else◌
+    unfolding when◌then◌else◌
     in_element_lem w h = record {
       type = refl;
       is = λ st p. (rw (by_size y st p, le-leb e (s / stride * stride + m) h, le-leb (s / stride * stride + m) max32 w), omega arith);

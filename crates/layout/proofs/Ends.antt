@@ -7,7 +7,7 @@ use mathlib.Core.List.{List, ◌∷◌}
 use lib.ListN.{length, get_or, drop}
 use lib.Seq.{drop-cons}
 use borrow.Author.Tests.{ne_eqb, le-ltb}
-use Rattle.definitions.specs.If.{if◌then◌else◌}
+use Rattle.definitions.specs.If.{when◌then◌else◌}
 use Rattle.definitions.specs.Stream.{read}
 use Rattle.definitions.specs.Table.{scalar, elements, fields, TypeLayout, concrete, handle, failed, read_layout}
 use Rattle.numbers.specs.Words.{number_at, word}
@@ -25,21 +25,21 @@ module _ (s : List ℕ) (p : ℕ) where
   ended l k b w e = record { layout = l; stands = e; near = omega arith; within = w }
 
   pub handle_ends : p < length s → get_or s p 0 ≡ 0x23 → Ended s p (p + 1)
-  unfolding if◌then◌else◌
+  unfolding when◌then◌else◌
   handle_ends h k = ended handle 1 (omega arith) (omega arith) (rw (from_kind 0x23 h k))
 
   pub failed_ends : p < length s → get_or s p 0 ≡ 0x24 → Ended s p (p + 1)
-  unfolding if◌then◌else◌
+  unfolding when◌then◌else◌
   failed_ends h k = ended failed 1 (omega arith) (omega arith) (rw (from_kind 0x24 h k))
 
   pub scalar_ends : p + 9 ≤ length s → get_or s p 0 ≡ 0x20 → Ended s p (p + 9)
-  unfolding if◌then◌else◌
+  unfolding when◌then◌else◌
   scalar_ends h k =
       ended (concrete (word s (p + 1)) (word s (p + 5)) scalar) 9 (omega arith) h
       (rw (from_kind 0x20 (omega arith) k, number_at_lem 4 s (p + 1) (p + 5) (omega arith) (omega arith), number_at_lem 4 s (p + 5) (p + 9) (omega arith) h))
 
   pub elements_ends : p + 21 ≤ length s → get_or s p 0 ≡ 0x21 → (word s (p + 9) ≡ 0 → ⊥) → Ended s p (p + 21)
-  unfolding if◌then◌else◌
+  unfolding when◌then◌else◌
   elements_ends h k w =
       let parts = elements (word s (p + 9)) (word s (p + 13)) (word s (p + 17)) in
       ended (concrete (word s (p + 1)) (word s (p + 5)) parts) 21 (omega arith) h
@@ -54,7 +54,7 @@ module _ (s : List ℕ) (p : ℕ) where
       ))
 
   pub fields_end : (n : ℕ) → n ≡ number_at 2 s (p + 9) → n ≤ 64 → p + (11 + n * 8) ≤ length s → get_or s p 0 ≡ 0x22 → Ended s p (p + (11 + n * 8))
-  unfolding if◌then◌else◌
+  unfolding when◌then◌else◌
   fields_end n e m h k =
       ended (concrete (word s (p + 1)) (word s (p + 5)) (fields (fields_at s (p + 11) n))) (11 + n * 8) (omega arith) h
       (rw (

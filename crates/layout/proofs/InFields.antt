@@ -7,7 +7,7 @@ use mathlib.Core.Bool.{Bool, true, false}
 use mathlib.Core.List.{List, ◌∷◌}
 use lib.Dec.{leb}
 use borrow.Author.Tests.{le-leb, lt-leb}
-use Rattle.definitions.specs.If.{if◌then◌else◌}
+use Rattle.definitions.specs.If.{when◌then◌else◌}
 use Rattle.definitions.specs.Table.{Setting, fields, fixed_size, is_dynamic}
 use Rattle.definitions.specs.Containment.{in_fields}
 use Rattle.numbers.specs.Words.{word}
@@ -58,16 +58,16 @@ module _ {b places : List ℕ} {at count from s e : ℕ} where
       this = record { index = i; below = l; is = at-ty }
 
       judged : (st : Setting) → ((ty : ℕ) → FieldType b at count ty → Placed b st.table places ty) → containing_from st (fields (fields_at b at count)) s e from ≡
-          (if r then record { type = f.ty; rest = s - f.offset } ∷ in_fields st (fields_at b (at + (i + 1) * 8) (count - (i + 1))) s e
+          (when r then record { type = f.ty; rest = s - f.offset } ∷ in_fields st (fields_at b (at + (i + 1) * 8) (count - (i + 1))) s e
           else in_fields st (fields_at b (at + (i + 1) * 8) (count - (i + 1))) s e)
       judged st p = rw (h.is st p, fields_next b at count i l, ← at-o, ← at-ty, ← k.is st.table (p f.ty this))
 
       pub next_contains : r ≡ false → Seeking b places at count from s e (i + 1)
-      unfolding if◌then◌else◌
+      unfolding when◌then◌else◌
       next_contains y = record { started = omega (arith, h.started); is = λ st p. rw (judged st p, y) }
 
       pub this_contains : r ≡ true → InFields b places at count from s e (In f.ty (s - f.offset) (i + 1))
-      unfolding if◌then◌else◌
+      unfolding when◌then◌else◌
       this_contains y = record {
         type = this;
         is = λ st p. (rw (judged st p, y, fields_from b (i + 1) at count), omega (arith, h.started));

@@ -6,7 +6,7 @@ use mathlib.Core.List.{List}
 use native.Mathlib.Omega.{arith}
 use native.Mathlib.Decide.{dec_lt}
 use borrow.Author.Tests.{lt-ltb, le-ltb}
-use Rattle.definitions.specs.If.{if◌then◌else◌}
+use Rattle.definitions.specs.If.{when◌then◌else◌}
 use Rattle.definitions.specs.Usage.{Usage, Entries}
 use Rattle.links.specs.Standing.{Stands, Row}
 use Rattle.links.specs.Frames.{Kept}
@@ -14,7 +14,7 @@ use Rattle.links.specs.Ranks.{spin, rotated}
 use Rattle.links.proofs.Stands.{stands_move, row_move}
 
 spin_out : (c m e x : ℕ) → c ≤ m → m ≤ e → (c ≤ x → x < e → ⊥) → spin c m e x ≡ x
-unfolding spin if◌then◌else◌
+unfolding spin when◌then◌else◌
 spin_out c m e x a b n = elim (dec_lt x c) [
   | yes v ↦ simp (lt-ltb x c v)
   | no v ↦ elim (dec_lt x e) [
@@ -24,11 +24,11 @@ spin_out c m e x a b n = elim (dec_lt x c) [
 ]
 
 spin_left : (c m e x : ℕ) → c ≤ x → x < m → spin c m e x ≡ x + (e - m)
-unfolding spin if◌then◌else◌
+unfolding spin when◌then◌else◌
 spin_left c m e x a b = simp (le-ltb x c a, lt-ltb x m b)
 
 spin_right : (c m e x : ℕ) → c ≤ m → m ≤ x → x < e → spin c m e x ≡ x - (m - c)
-unfolding spin if◌then◌else◌
+unfolding spin when◌then◌else◌
 spin_right c m e x a b d = let l : c ≤ x = omega arith in simp (le-ltb x c l, le-ltb x m b, lt-ltb x e d)
 
 pub rot_kept : (s : List ℕ) (r : ℕ → ℕ) (c m e : ℕ) → c ≤ m → m ≤ e → Kept s r s (rotated r c m e) c e

@@ -6,7 +6,7 @@ use mathlib.Core.Path.{◌≡◌, refl, ap, ◌∙◌}
 use mathlib.Core.List.{List}
 use native.Mathlib.Omega.{arith}
 use lib.Dec.{eqb}
-use Rattle.definitions.specs.If.{if◌then◌else◌}
+use Rattle.definitions.specs.If.{when◌then◌else◌}
 use Rattle.definitions.specs.Usage.{Usage, unused, leaf, map, array, Entries, none, entry, nodes, nodes_in}
 use Rattle.definitions.proofs.Nodes.{some_node}
 use Rattle.records.specs.Records.{command_in, next_in, child_in}
@@ -30,15 +30,15 @@ mutual
 -- by its command: an array, a map, or neither
 
 pub weigh_array : (k : ℕ) (s : List ℕ) (q : ℕ) → command_in s q ≡ 4 → weigh (suc k) s q ≡ suc (weigh k s (child_in s q))
-unfolding weigh if◌then◌else◌
+unfolding weigh when◌then◌else◌
 weigh_array k s q e = rw e
 
 pub weigh_map : (k : ℕ) (s : List ℕ) (q : ℕ) → command_in s q ≡ 3 → weigh (suc k) s q ≡ suc (weigh_row k s (child_in s q))
-unfolding weigh if◌then◌else◌
+unfolding weigh when◌then◌else◌
 weigh_map k s q e = rw e
 
 weigh_one : (k : ℕ) (s : List ℕ) (q c : ℕ) → command_in s q ≡ c → eqb c 4 ≡ false → eqb c 3 ≡ false → weigh (suc k) s q ≡ 1
-unfolding weigh if◌then◌else◌
+unfolding weigh when◌then◌else◌
 weigh_one k s q c e n4 n3 = rw (e, n4, n3)
 
 -- a step for each node, and one for each row

@@ -1,7 +1,7 @@
 -- Parts of a map's entries: linked downwards, or told from the last of them down.
 -- Assumes nothing.
 use Rattle.std.specs.Prelude.{ℕ, zero, suc, ◌+◌, ◌≤◌, ◌≡◌, List, eqb}
-use Rattle.definitions.specs.If.{if◌then◌else◌}
+use Rattle.definitions.specs.If.{when◌then◌else◌}
 use Rattle.definitions.specs.Usage.{Entries, none, entry}
 use Rattle.records.specs.Records.{command_in, next_in, child_in, offset_in}
 use Rattle.links.specs.Standing.{Stands}
@@ -36,7 +36,7 @@ chain (suc k) s (suc q) = suc (chain k s (next_in s (suc q)))
 unfoldable mutual
   pub weigh : ℕ → List ℕ → ℕ → ℕ
   weigh zero s q = 0
-  weigh (suc k) s q = suc (if eqb (command_in s q) 4 then weigh k s (child_in s q) else if eqb (command_in s q) 3 then weigh_row k s (child_in s q) else 0)
+  weigh (suc k) s q = suc (when eqb (command_in s q) 4 then weigh k s (child_in s q) else when eqb (command_in s q) 3 then weigh_row k s (child_in s q) else 0)
 
   pub weigh_row : ℕ → List ℕ → ℕ → ℕ
   weigh_row zero s q = 0

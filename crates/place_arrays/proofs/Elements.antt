@@ -7,7 +7,7 @@ use mathlib.Core.List.{[]}
 use mathlib.Core.Option.{none as nothing}
 use native.Mathlib.Omega.{arith}
 use borrow.Author.Tests.{eq-eqb, ne_eqb}
-use Rattle.definitions.specs.If.{if◌then◌else◌}
+use Rattle.definitions.specs.If.{when◌then◌else◌}
 use Rattle.definitions.specs.Usage.{Size, Usage, unused, leaf, map, array, size}
 use Rattle.definitions.specs.Command.{head_of}
 use Rattle.definitions.specs.Table.{Setting}
@@ -17,7 +17,7 @@ use Rattle.place_states.specs.Beyond.{element, finish, resume, act}
 use Rattle.place_arrays.specs.Arrays.{element_todo}
 
 no_element : (r stride : ℕ) (b : Usage) → (r ≡ 0 → (head_of b).command ≡ 4 → (head_of b).argument ≡ stride → ⊥) → element_of r stride b ≡ nothing
-unfolding if◌then◌else◌
+unfolding when◌then◌else◌
 no_element (suc r) stride b not = refl
 no_element zero stride (unused z) not = refl
 no_element zero stride (leaf z k t) not = refl
@@ -33,17 +33,17 @@ module _ (st : Setting) where
   module _ (z : Size) (n : ℕ) (e : Usage) (d : ℕ) (b : Usage) where
     pub array_fits : fits_stride (d % n) (size b) n ≡ true
         → place_in_array st (place st) z n e d b ≡ under (array z n) (act st (element_todo (d % n)) (d % n) e b)
-    unfolding if◌then◌else◌
+    unfolding when◌then◌else◌
     array_fits fits = rw (fits, act_element e (d % n) b)
 
     pub array_conflict : fits_stride (d % n) (size b) n ≡ false → (d % n ≡ 0 → (head_of b).command ≡ 4 → (head_of b).argument ≡ n → ⊥)
         → place_in_array st (place st) z n e d b ≡ done (array z n e) (stride_conflict n) 0
-    unfolding if◌then◌else◌
+    unfolding when◌then◌else◌
     array_conflict fits not = rw (fits, no_element (d % n) n b not)
 
   pub array_merges : (z : Size) (n : ℕ) (e : Usage) (d : ℕ) (y : Size) (m : ℕ) (f : Usage) → fits_stride (d % n) y n ≡ false → d % n ≡ 0 → m ≡ n
       → place_in_array st (place st) z n e d (array y m f) ≡ under (array z n) (act st (element_todo 0) 0 e f)
-  unfolding if◌then◌else◌
+  unfolding when◌then◌else◌
   array_merges z n e d y m f fits at-start equal = rw (fits, at-start, eq-eqb m n equal, act_element e 0 f)
 
   pub resume_element : (z : Size) (n o : ℕ) (r : Result Usage) → resume st (element z n) o [] 0 r ≡ after [] 1 (under (array z n) r)

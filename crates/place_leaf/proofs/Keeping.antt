@@ -8,7 +8,7 @@ use mathlib.Core.Option.{none as nothing, some}
 use native.Mathlib.Omega.{arith}
 use borrow.Author.Tests.{eq-eqb, ne_eqb}
 use lib.ListN.{length}
-use Rattle.definitions.specs.If.{if◌then◌else◌}
+use Rattle.definitions.specs.If.{when◌then◌else◌}
 use Rattle.definitions.specs.Usage.{Size, Usage, leaf}
 use Rattle.definitions.specs.Table.{Setting}
 use Rattle.definitions.specs.Place.{type_at_zero, Kept as KeptType, asked}
@@ -70,7 +70,7 @@ module _ (table places s : List ℕ) (a d b ty : ℕ) (here : ty ≡ argument_in
         go (leaf_of z x) f = f.1
 
     pub keeps_equal : c ≡ ty → Keeps table places s a d b (record { ty = ty; conflict = Clear })
-    unfolding if◌then◌else◌
+    unfolding when◌then◌else◌
     keeps_equal e = record {
       is = λ setting known z k t' u r lo mid hi two.
           let same : ty ≡ t' = own two in
@@ -79,7 +79,7 @@ module _ (table places s : List ℕ) (a d b ty : ℕ) (here : ty ≡ argument_in
 
     module _ (differ : c ≡ ty → ⊥) (w : Asked) (A : Answers table places ty d s b w) where
       pub keeps_first : (n : Bool) (y : Kept) → n ≡ is_no w → n ≡ false → y ≡ decided w ty (differing ty) → Keeps table places s a d b y
-      unfolding if◌then◌else◌
+      unfolding when◌then◌else◌
       keeps_first n y is said e = record {
         is = λ setting known z k t' u r lo mid hi two.
             let same : ty ≡ t' = own two in
@@ -89,7 +89,7 @@ module _ (table places s : List ℕ) (a d b ty : ℕ) (here : ty ≡ argument_in
       }
 
       pub keeps_second : (n : Bool) (w' : Asked) (y : Kept) → n ≡ is_no w → n ≡ true → Answers table places c 0 s a w' → y ≡ decided w' c (differing ty) → Keeps table places s a d b y
-      unfolding if◌then◌else◌
+      unfolding when◌then◌else◌
       keeps_second n w' y is none_said A' e = record {
         is = λ setting known z k t' u r lo mid hi two.
             let same : ty ≡ t' = own two in

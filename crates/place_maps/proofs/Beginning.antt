@@ -8,7 +8,7 @@ use mathlib.Core.List.{List, [], ◌∷◌}
 use lib.ListN.{length}
 use native.Mathlib.Omega.{arith}
 use borrow.Author.Tests.{leb-true}
-use Rattle.definitions.specs.If.{if◌then◌else◌}
+use Rattle.definitions.specs.If.{when◌then◌else◌}
 use Rattle.definitions.specs.Usage.{Size, fixed, dynamic, Usage, map, Entries, none, entry, size, nodes, nodes_in, ◌<+>◌}
 use Rattle.definitions.specs.Table.{Setting}
 use Rattle.definitions.specs.Place.{refused, ends, past32, ◌≤ˢ◌, after, overlapping, join_found, rebuilt, place_in_map, place_in_kind, place_by_kind, place, joined}
@@ -110,11 +110,11 @@ run_of {s} {a} {d} {b} B c M F =
 
 module _ (st : Setting) (z : Size) (es : Entries) (d : ℕ) (b : Usage) where
   map_past : past32 (ends d (size b)) ≡ true → place_in_map st (place st) z es d b ≡ refused 9
-  unfolding if◌then◌else◌
+  unfolding when◌then◌else◌
   map_past e = rw e
 
   map_fine : past32 (ends d (size b)) ≡ false → place_in_map st (place st) z es d b ≡ join_found st (place st) z d b (overlapping d (ends d (size b)) es)
-  unfolding if◌then◌else◌
+  unfolding when◌then◌else◌
   map_fine e = rw e
 
 into_map : (setting : Setting) {k : ℕ} {s : List ℕ} {a d b : ℕ} {r : ℕ → ℕ} {lo mid hi : ℕ} {t u : Usage} (two : Two k s a b r lo mid hi t u) (A : Mapped k t s a r lo mid) → Plain (command_in s b) d

@@ -6,7 +6,7 @@ use mathlib.Core.Path.{◌≡◌, refl, sym, ap, ◌∙◌}
 use native.Mathlib.Omega.{arith}
 use native.Mathlib.Decide.{ℕ_discrete}
 use borrow.Author.Tests.{lt-ltb, le-ltb, eq-eqb, ne_eqb}
-use Rattle.definitions.specs.If.{if◌then◌else◌}
+use Rattle.definitions.specs.If.{when◌then◌else◌}
 use Rattle.definitions.specs.Usage.{Usage, Entries, none, entry, ◌<+>◌}
 use Rattle.definitions.specs.Place.{insert}
 use Rattle.definitions.specs.Sound.{Ascends}
@@ -18,25 +18,25 @@ use Rattle.place_maps.specs.Joining.{without}
 use Rattle.place_maps.proofs.Entries.{Under, append_assoc, under_of, under_one_more, upto_last}
 
 pub without_same : (o : ℕ) (u : Usage) (es : Entries) → without o (entry o u es) ≡ es
-unfolding without if◌then◌else◌
+unfolding without when◌then◌else◌
 without_same o u es = rw (eq-eqb o o refl)
 
 pub without_other : (o o' : ℕ) (u : Usage) (es : Entries) → (o' ≡ o → ⊥) → without o (entry o' u es) ≡ entry o' u es
-unfolding without if◌then◌else◌
+unfolding without when◌then◌else◌
 without_other o o' u es ne = rw (ne_eqb o' o ne)
 
 module _ (d : ℕ) (b : Usage) where
   insert_behind : (es fs : Entries) → Under d es → insert d b (es <+> fs) ≡ es <+> insert d b fs
-  unfolding if◌then◌else◌
+  unfolding when◌then◌else◌
   insert_behind none fs h = refl
   insert_behind (entry o u es) fs h = rw (le-ltb d o (omega arith), ne_eqb d o (omega arith)) (ap (entry o u) (insert_behind es fs h.1))
 
   insert_at : (u : Usage) (es : Entries) → insert d b (entry d u es) ≡ entry d b es
-  unfolding if◌then◌else◌
+  unfolding when◌then◌else◌
   insert_at u es = rw (le-ltb d d (omega arith), eq-eqb d d refl)
 
   insert_first : (es : Entries) → FromOn d es → insert d b es ≡ entry d b (without d es)
-  unfolding if◌then◌else◌ without
+  unfolding when◌then◌else◌ without
   insert_first none h = refl
   insert_first (entry o u es) h = elim (ℕ_discrete o d) [
     | yes e ↦ rw e (insert_at u es ∙ ap (entry d b) (sym (without_same d u es)))

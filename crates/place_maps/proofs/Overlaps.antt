@@ -6,7 +6,7 @@ use mathlib.Core.Bool.{Bool, true, false, ◌||◌, true≢false, false≢true}
 use mathlib.Core.List.{List}
 use native.Mathlib.Omega.{arith}
 use borrow.Author.Tests.{leb-true, le-leb, le-ltb}
-use Rattle.definitions.specs.If.{if◌then◌else◌}
+use Rattle.definitions.specs.If.{when◌then◌else◌}
 use Rattle.definitions.specs.Limits.{max32}
 use Rattle.definitions.specs.Usage.{Size, fixed, dynamic, Usage, Entries, none, entry, size, ◌<+>◌}
 use Rattle.definitions.specs.Table.{Setting}
@@ -51,19 +51,19 @@ or_false false b e = (refl, e)
 
 module _ (d : ℕ) (e : Size) where
   pass_over : (es : Entries) → Starting e es → overlapping d e es ≡ searching none es
-  unfolding if◌then◌else◌
+  unfolding when◌then◌else◌
   pass_over none h = refl
   pass_over (entry o u es) h = rw (pass_over es h.1, h.0)
 
   collect : (mid high : Entries) → Crossing d e mid → overlapping d e high ≡ searching none high → any_past mid ≡ false → overlapping d e (mid <+> high) ≡ searching mid high
-  unfolding if◌then◌else◌
+  unfolding when◌then◌else◌
   collect none high h q a = q
   collect (entry o u es) high h q a =
       let fine = or_false (past32 (ends o (size u))) (any_past es) a in
       rw (collect es high h.2 q fine.1, h.0, fine.0, h.1)
 
   collect_past : (mid high : Entries) → Crossing d e mid → overlapping d e high ≡ searching none high → any_past mid ≡ true → overlapping d e (mid <+> high) ≡ past
-  unfolding if◌then◌else◌
+  unfolding when◌then◌else◌
   collect_past none high h q a = absurd (false≢true a)
   collect_past (entry o u es) high h q a = go (any_past es) (past32 (ends o (size u))) refl refl (collect_past es high h.2 q)
     where
@@ -79,7 +79,7 @@ module _ (d : ℕ) (e : Size) where
 
   stop : (low : Entries) (o : ℕ) (u : Usage) (es mid high : Entries) → d ≤ max32 → (e ≤ˢ fixed o) ≡ false → (ends o (size u) ≤ˢ fixed d) ≡ true
       → overlapping d e es ≡ searching mid high → overlapping d e (low <+> entry o u es) ≡ stopped (low <+> entry o u none) mid high
-  unfolding if◌then◌else◌
+  unfolding when◌then◌else◌
   stop none o u es mid high small start end q = rw (q, start, by_fits d (ends o (size u)) small end, end)
   stop (entry o' u' low) o u es mid high small start end q = ap (overlap_next d e o' u') (stop low o u es mid high small start end q)
 

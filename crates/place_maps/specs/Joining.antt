@@ -1,7 +1,7 @@
 -- What the steps of rule 6 assume and leave.
 -- Assumes nothing.
 use Rattle.std.specs.Prelude.{ℕ, suc, ◌+◌, ◌-◌, ◌*◌, ◌<◌, ◌≤◌, ◌≡◌, List, ◌∷◌, eqb, length}
-use Rattle.definitions.specs.If.{if◌then◌else◌}
+use Rattle.definitions.specs.If.{when◌then◌else◌}
 use Rattle.definitions.specs.Usage.{Size, Usage, map, Entries, none, entry, size}
 use Rattle.definitions.specs.Stream.{bytes}
 use Rattle.definitions.specs.Table.{Setting}
@@ -27,7 +27,7 @@ pub record Within (s : List ℕ) (a : ℕ) (st : State) : Type 0 where
 -- without the first of them, if that stands at o
 unfoldable pub without : ℕ → Entries → Entries
 without o none = none
-without o (entry o' u es) = if eqb o' o then es else entry o' u es
+without o (entry o' u es) = when eqb o' o then es else entry o' u es
 
 -- whatever entries are linked from q on, those but one at o are linked from p on
 pub record Passed (s : List ℕ) (q o p : ℕ) : Type 0 where

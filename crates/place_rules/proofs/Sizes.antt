@@ -1,7 +1,7 @@
 -- The refusal by sizes is what the tests say: 9 before 8, and 8 where the sum is past a's size, since then the larger of the two is not a's.
 -- Assumes nothing.
 use Rattle.std.proofs.Common.{◌≡◌, ℕ, ◌+◌, ◌<◌, ◌≤◌, max, true, false, eqb, arith, le-ltb, lt-ltb, eq-eqb, ne_eqb}
-use Rattle.definitions.specs.If.{if◌then◌else◌}
+use Rattle.definitions.specs.If.{when◌then◌else◌}
 use Rattle.definitions.specs.Limits.{max32}
 use Rattle.definitions.specs.Place.{size_refusal}
 use Rattle.qptr.specs.Values.{size_of}
@@ -18,17 +18,17 @@ module _ (a b : MaxSize) (d : ℕ) where
 
     module _ (n : ℕ) (eb : b ≡ Fixed n) where
       pub size_past : max32 < d + n → 9 ≡ size_refusal (size_of a) d (size_of b)
-      unfolding if◌then◌else◌
+      unfolding when◌then◌else◌
       size_past past = rw (ea, eb, lt-ltb max32 (d + n) past)
 
       pub size_larger : d + n ≤ max32 → m < d + n → 8 ≡ size_refusal (size_of a) d (size_of b)
-      unfolding if◌then◌else◌
+      unfolding when◌then◌else◌
       size_larger low past =
           let other : eqb (max m (d + n)) m ≡ false = ne_eqb (max m (d + n)) m (λ e. omega arith) in
           rw (ea, eb, le-ltb max32 (d + n) low, other)
 
       pub size_fits : d + n ≤ max32 → d + n ≤ m → 0 ≡ size_refusal (size_of a) d (size_of b)
-      unfolding if◌then◌else◌
+      unfolding when◌then◌else◌
       size_fits low within =
           let same : eqb (max m (d + n)) m ≡ true = eq-eqb (max m (d + n)) m (omega arith) in
           rw (ea, eb, le-ltb max32 (d + n) low, same)

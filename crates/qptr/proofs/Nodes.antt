@@ -7,7 +7,7 @@ use mathlib.Core.Bool.{Bool, true, false}
 use native.Mathlib.Decide.{ℕ_discrete}
 use borrow.Author.Tests.{ne_eqb, le-ltb}
 use lib.Dec.{ltb}
-use Rattle.definitions.specs.If.{if◌then◌else◌}
+use Rattle.definitions.specs.If.{when◌then◌else◌}
 use Rattle.definitions.specs.Usage.{Size, Usage, UNUSED, unused, leaf, map, array, size, Entries, none, entry, count}
 use Rattle.definitions.specs.Command.{Head, head_of, command_at, strictness}
 use Rattle.definitions.specs.Place.{◌<ˢ◌}
@@ -17,8 +17,8 @@ use Rattle.qptr.specs.Values.{size_of, part_by, Stands, Receives}
 -- `first_receives`, of nodes
 abbrev pub node_receives : Node → Node → Bool
 node_receives a b =
-    if size_of b.size <ˢ size_of a.size then true
-    else if size_of a.size <ˢ size_of b.size then false
+    when size_of b.size <ˢ size_of a.size then true
+    else when size_of a.size <ˢ size_of b.size then false
     else ltb (command_at b.command).strictness (command_at a.command).strictness
 
 head_size : (u : Usage) → (head_of u).size ≡ size u
@@ -45,7 +45,7 @@ entries_of_lem (suc n) = let more = entries_of_lem n in (entry 0 UNUSED more.0, 
 
 -- a node's command and operands are its own part
 pub part_is : (c : ℕ) (z : Size) (n : ℕ) → c ≤ 0x04 → (c ≡ 0x00 → n ≡ 0) → part_by c z n ≡ record { command = c; size = z; argument = n }
-unfolding if◌then◌else◌
+unfolding when◌then◌else◌
 part_is c z n known bare =
     elim (ℕ_discrete c 0x00) [
       | yes is ↦ rw (is, bare is)

@@ -1,7 +1,7 @@
 -- What this crate's values stand for: sizes, rows of the command table, and nodes without their children.
 -- Assumes nothing.
 use Rattle.std.specs.Prelude.{ℕ, Bool, ◌≡◌, ltb, eqb}
-use Rattle.definitions.specs.If.{if◌then◌else◌}
+use Rattle.definitions.specs.If.{when◌then◌else◌}
 use Rattle.definitions.specs.Usage.{Size, fixed, dynamic, Usage, UNUSED, unused}
 use Rattle.definitions.specs.Command.{Command as Row, Head, head_of}
 use Rattle.definitions.specs.Place.{first_receives}
@@ -24,8 +24,8 @@ part_of n = record { command = n.command; size = size_of n.size; argument = n.ar
 -- the own part with this command, size and argument: an Unused has no argument, and where no node has the command stands the placeholder
 abbrev pub part_by : ℕ → Size → ℕ → Head
 part_by c z n =
-    if eqb c 0x00 then head_of (unused z)
-    else if ltb 0x04 c then head_of UNUSED
+    when eqb c 0x00 then head_of (unused z)
+    else when ltb 0x04 c then head_of UNUSED
     else record { command = c; size = z; argument = n }
 
 -- the usage's own part is this node

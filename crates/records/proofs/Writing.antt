@@ -9,7 +9,7 @@ use native.Mathlib.Omega.{arith}
 use lib.Dec.{eqb}
 use lib.ListN.{length}
 use borrow.Author.Tests.{eqb-true, eqb-false}
-use Rattle.definitions.specs.If.{if◌then◌else◌}
+use Rattle.definitions.specs.If.{when◌then◌else◌}
 use Rattle.definitions.specs.Usage.{Size}
 use Rattle.definitions.proofs.Choice.{decide}
 use Rattle.qptr.specs.Values.{size_of}
@@ -29,7 +29,7 @@ width k = 2 + (k - 3 - (k - 4)) * 2
 
 -- what field j is that was n, once v is put as field k
 abbrev stored : ℕ → ℕ → ℕ → ℕ → ℕ
-stored k v j n = if eqb j k then v else n
+stored k v j n = when eqb j k then v else n
 
 pub cell_is : (s : List ℕ) (q k f n l m z t o : ℕ) → command_in s q ≡ k → number_at 2 s (q * 32 + 2) ≡ f → next_in s q ≡ n → child_in s q ≡ l → count_in s q ≡ m → word s (q * 32 + 12) ≡ z → argument_in s q ≡ t → offset_in s q ≡ o
     → cell s q ≡ full k n l m (size_from f z) t o
@@ -78,27 +78,27 @@ module _ (s s' : List ℕ) (q k v i : ℕ) (e : s' ≡ put_at (width k) s i v) (
 
 module _ (s s' : List ℕ) (q v : ℕ) where
   commanded : s' ≡ put_at 2 s (q * 32) v → q * 32 + 32 ≤ length s → v < 65536 → Set s s' q (with_type v (argument_in s q) (cell s q))
-  unfolding if◌then◌else◌
+  unfolding when◌then◌else◌
   commanded e h f = field_set s s' q 0 v (q * 32) e (omega arith) h (omega arith) f
 
   pub set_next : s' ≡ put_at 2 s (q * 32 + 4) v → q * 32 + 32 ≤ length s → v < 65536 → Set s s' q (with_next v (cell s q))
-  unfolding if◌then◌else◌
+  unfolding when◌then◌else◌
   set_next e h f = field_set s s' q 2 v (q * 32 + 4) e (omega arith) h (omega arith) f
 
   pub set_child : s' ≡ put_at 2 s (q * 32 + 6) v → q * 32 + 32 ≤ length s → v < 65536 → Set s s' q (with_child v (cell s q))
-  unfolding if◌then◌else◌
+  unfolding when◌then◌else◌
   set_child e h f = field_set s s' q 3 v (q * 32 + 6) e (omega arith) h (omega arith) f
 
   pub set_count : s' ≡ put s (q * 32 + 8) v → q * 32 + 32 ≤ length s → v < 4294967296 → Set s s' q (with_count v (cell s q))
-  unfolding if◌then◌else◌
+  unfolding when◌then◌else◌
   set_count e h f = field_set s s' q 4 v (q * 32 + 8) e (omega arith) h (omega arith) f
 
   pub set_argument : s' ≡ put s (q * 32 + 16) v → q * 32 + 32 ≤ length s → v < 4294967296 → Set s s' q (with_argument v (cell s q))
-  unfolding if◌then◌else◌
+  unfolding when◌then◌else◌
   set_argument e h f = field_set s s' q 6 v (q * 32 + 16) e (omega arith) h (omega arith) f
 
   pub set_offset : s' ≡ put s (q * 32 + 20) v → q * 32 + 32 ≤ length s → v < 4294967296 → Set s s' q (with_offset v (cell s q))
-  unfolding if◌then◌else◌
+  unfolding when◌then◌else◌
   set_offset e h f = field_set s s' q 7 v (q * 32 + 20) e (omega arith) h (omega arith) f
 
 -- Several fields
@@ -111,7 +111,7 @@ pub set_again : (s s₁ s₂ : List ℕ) (q : ℕ) (c : Cell) (g : Cell → Cell
 set_again s s₁ s₂ q c g A B = record { here = B.here ∙ ap g A.here; others = λ i ne. B.others i ne ∙ A.others i ne }
 
 sized : (s s₁ s₂ : List ℕ) (q f n : ℕ) → s₁ ≡ put_at 2 s (q * 32 + 2) f → s₂ ≡ put s₁ (q * 32 + 12) n → q * 32 + 32 ≤ length s → f < 65536 → n < 4294967296 → Set s s₂ q (with_size (size_from f n) (cell s q))
-unfolding if◌then◌else◌
+unfolding when◌then◌else◌
 sized s s₁ s₂ q f n e₁ e₂ h ff fn =
     let l : length s₁ ≡ length s = length_stored 2 s s₁ (q * 32 + 2) f e₁ in
     let A : Set s s₁ q (with_size (size_from f (word s (q * 32 + 12))) (cell s q)) = field_set s s₁ q 1 f (q * 32 + 2) e₁ (omega arith) h (omega arith) ff in
@@ -150,7 +150,7 @@ spare s s' q S i = elim (ℕ_discrete i q) [
 ]
 
 pub marked : (s s₁ s₂ : List ℕ) (q t p : ℕ) → s₁ ≡ put s (q * 32 + 24) t → s₂ ≡ put s₁ (q * 32 + 28) p → q * 32 + 32 ≤ length s → t < 4294967296 → p < 4294967296 → Marked s s₂ q t p
-unfolding if◌then◌else◌
+unfolding when◌then◌else◌
 marked s s₁ s₂ q t p e₁ e₂ h ft fp =
     let l : length s₁ ≡ length s = length_stored 4 s s₁ (q * 32 + 24) t e₁ in
     let h₁ : q * 32 + 32 ≤ length s₁ = omega arith in

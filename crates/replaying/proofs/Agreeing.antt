@@ -7,7 +7,7 @@ use mathlib.Core.List.{List, [], ◌∷◌}
 use native.Mathlib.Omega.{arith}
 use borrow.Author.Tests.{ne_eqb}
 use lib.ListN.{length, get_or}
-use Rattle.definitions.specs.If.{if◌then◌else◌}
+use Rattle.definitions.specs.If.{when◌then◌else◌}
 use Rattle.definitions.specs.Calls.{Answer as Told, receiver_call, supports_call, place_call, merge_call, fold_call, sound_call}
 use Rattle.numbers.specs.Words.{word}
 use Rattle.answers.specs.Answers.{answer_of}
@@ -46,17 +46,17 @@ module _ (s : List ℕ) (p : Parts) where
   module _ (output : List ℕ) (n : ℕ) where
     pub is_place : (call work offset : ℕ) → call ≡ 2 → work ≡ word s 1 → offset ≡ word s 9
         → place_call (table_in s p) work (first_in s p) offset (second_in s p) output n ≡ called call s p output n
-    unfolding called if◌then◌else◌
+    unfolding called when◌then◌else◌
     is_place call work offset e f g = rw (e, f, g)
 
     pub is_merge : (call work : ℕ) → call ≡ 3 → work ≡ word s 1
         → merge_call (table_in s p) work (first_in s p) (second_in s p) output n ≡ called call s p output n
-    unfolding called if◌then◌else◌
+    unfolding called when◌then◌else◌
     is_merge call work e f = rw (e, f)
 
     pub is_fold : (call work : ℕ) → (call ≡ 2 → ⊥) → (call ≡ 3 → ⊥) → work ≡ word s 1
         → fold_call (table_in s p) work (first_in s p) output n ≡ called call s p output n
-    unfolding called if◌then◌else◌
+    unfolding called when◌then◌else◌
     is_fold call work e f g = rw (ne_eqb call 2 e, ne_eqb call 3 f, g)
 
     pub wrote : (call : ℕ) {a : Answer} {output' report' : List ℕ} → Gives (called call s p output n) a output' report'

@@ -2,7 +2,7 @@
 -- A record begins with its call, the length of the work area, the type and the offset; then come its parts.
 -- Assumes nothing.
 use Rattle.std.specs.Prelude.{ℕ, ◌+◌, ◌≤◌, ◌≡◌, Bool, true, false, not, List, [], eqb, length, get_or, replicate}
-use Rattle.definitions.specs.If.{if◌then◌else◌}
+use Rattle.definitions.specs.If.{when◌then◌else◌}
 use Rattle.definitions.specs.Calls.{Answer, Written, receiver_call, supports_call, place_call, merge_call, fold_call, sound_call}
 use Rattle.numbers.specs.Words.{word}
 use Rattle.frame.specs.Places.{between}
@@ -60,8 +60,8 @@ pub data Handed (first second : List ℕ) : ℕ → List ℕ → Type 0 where
 -- of the calls that write, which are 2 place, 3 merge and else fold, with an output and a report buffer of n bytes
 unfoldable pub called : ℕ → List ℕ → Parts → List ℕ → ℕ → Written
 called call s p output n =
-    if eqb call 2 then place_call (table_in s p) (word s 1) (first_in s p) (word s 9) (second_in s p) output n
-    else if eqb call 3 then merge_call (table_in s p) (word s 1) (first_in s p) (second_in s p) output n
+    when eqb call 2 then place_call (table_in s p) (word s 1) (first_in s p) (word s 9) (second_in s p) output n
+    else when eqb call 3 then merge_call (table_in s p) (word s 1) (first_in s p) (second_in s p) output n
     else fold_call (table_in s p) (word s 1) (first_in s p) output n
 
 abbrev pub Writes : List ℕ → Parts → ℕ → Type 0

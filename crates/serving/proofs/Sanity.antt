@@ -7,7 +7,7 @@ use mathlib.Core.Bool.{true, false}
 use mathlib.Core.List.{List, [], ◌∷◌, ◌++◌}
 use native.Mathlib.Omega.{arith}
 use lib.ListN.{length, replicate}
-use Rattle.definitions.specs.If.{if◌then◌else◌}
+use Rattle.definitions.specs.If.{when◌then◌else◌}
 use Rattle.definitions.specs.Limits.{work_limit}
 use Rattle.definitions.specs.Usage.{Usage, leaf, fixed, memory, Nodes}
 use Rattle.definitions.specs.Command.{command_at}
@@ -35,11 +35,11 @@ two : Usage
 two = leaf (fixed 4) false 1
 
 first_two : merge_mem setting (leaf (fixed 4) false 0) (leaf (fixed 4) false 1) ≡ done two (0x32 ∷ []) 1
-unfolding setting two merge_mem place place_in supports supports_in if◌then◌else◌ command_at
+unfolding setting two merge_mem place place_in supports supports_in when◌then◌else◌ command_at
 first_two = refl
 
 all_three : fold setting three ≡ done (leaf (fixed 4) true 1) (0x38 ∷ bytes 2 1 ++ 0x32 ∷ []) 2
-unfolding setting three fold merge_mem place place_in supports supports_in if◌then◌else◌ command_at
+unfolding setting three fold merge_mem place place_in supports supports_in when◌then◌else◌ command_at
 all_three = refl
 
 -- so the usage that the first two come to is not what the three do, whatever is reported and counted
@@ -57,17 +57,17 @@ answer : fold_call table work_limit list (replicate 12 7) 5 ≡ record {
   output = write_top (memory (leaf (fixed 4) true 1)) ++ 7 ∷ [];
   report = 0x38 ∷ 1 ∷ 0 ∷ 0x32 ∷ 0 ∷ [];
 }
-unfolding table three list fold_call table_of list_of read_node read_node_in fold merge_mem place place_in supports supports_in if◌then◌else◌ command_at
+unfolding table three list fold_call table_of list_of read_node read_node_in fold merge_mem place place_in supports supports_in when◌then◌else◌ command_at
 answer = refl
 
 placed : (ty : ℕ) → ty < 2 → Placed table setting.table (2 ∷ 11 ∷ []) ty
-unfolding table setting if◌then◌else◌
+unfolding table setting when◌then◌else◌
 placed zero l = record { kept = omega arith; rest = bytes 1 0x20 ++ bytes 4 4 ++ bytes 4 0; stands = refl; admits = refl }
 placed (suc zero) l = record { kept = omega arith; rest = []; stands = refl; admits = refl }
 placed (suc (suc ty)) l = absurd (omega arith)
 
 ready : (work : List ℕ) → length work ≡ work_limit → FoldReady table (2 ∷ 11 ∷ []) list work
-unfolding table setting three list table_of list_of read_node read_node_in if◌then◌else◌ command_at
+unfolding table setting three list table_of list_of read_node read_node_in when◌then◌else◌ command_at
 ready work area = record {
   setting = setting;
   listed = three;

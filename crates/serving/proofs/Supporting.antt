@@ -10,7 +10,7 @@ use native.Mathlib.Omega.{arith}
 use borrow.Author.Tests.{lt-ltb, le-ltb, le-leb, lt-leb}
 use lib.Dec.{ltb, leb}
 use lib.ListN.{length}
-use Rattle.definitions.specs.If.{if◌then◌else◌}
+use Rattle.definitions.specs.If.{when◌then◌else◌}
 use Rattle.definitions.specs.Limits.{node_limit, work_limit}
 use Rattle.definitions.specs.Usage.{nodes}
 use Rattle.definitions.specs.Stream.{memory_of}
@@ -67,25 +67,25 @@ module _ {table places : List ℕ} {work k : ℕ} (t : Begun table work places k
     asked = rw (good_table _ t, m.is, types_in_lem t.table m.usage, t.counted, ← m.bounded, ← m.counted)
 
     pub supports_typeless : k ≤ ty → supports_call table work ty offset s ≡ refusal 5
-    unfolding if◌then◌else◌
+    unfolding when◌then◌else◌
     supports_typeless h = rw (asked, le-ltb ty k h)
 
     module _ (below : ty < k) where
       pub supports_unknown : k < b → supports_call table work ty offset s ≡ refusal 5
-      unfolding if◌then◌else◌
+      unfolding when◌then◌else◌
       supports_unknown h = rw (asked, lt-ltb ty k below, lt-leb b k h)
 
       module _ (within : b ≤ k) {r : Bool} (says : Says is_concrete table places ty r) where
         pub supports_abstract : r ≡ false → supports_call table work ty offset s ≡ refusal 6
-        unfolding if◌then◌else◌
+        unfolding when◌then◌else◌
         supports_abstract e = rw (asked, lt-ltb ty k below, le-leb b k within, concrete_is below says, e)
 
         pub supports_many : r ≡ true → node_limit < n → supports_call table work ty offset s ≡ refusal 7
-        unfolding if◌then◌else◌
+        unfolding when◌then◌else◌
         supports_many e more = rw (asked, lt-ltb ty k below, le-leb b k within, concrete_is below says, e, lt-ltb node_limit n more)
 
         pub supports_said : r ≡ true → n ≤ node_limit → supports_call table work ty offset s ≡ said (done (supports setting ty offset m.usage) [] 0)
-        unfolding if◌then◌else◌
+        unfolding when◌then◌else◌
         supports_said e few = rw (asked, lt-ltb ty k below, le-leb b k within, concrete_is below says, e, le-ltb node_limit n few)
 
       -- the usage that is loaded stands in the work area, and is asked about there

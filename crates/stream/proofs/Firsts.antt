@@ -8,7 +8,7 @@ use native.Mathlib.Omega.{arith}
 use native.Mathlib.Decide.{ℕ_discrete}
 use borrow.Author.Tests.{eq-eqb, ne_eqb}
 use lib.ListN.{length, get_or, drop, length-drop, get_or-eq_default}
-use Rattle.definitions.specs.If.{if◌then◌else◌}
+use Rattle.definitions.specs.If.{when◌then◌else◌}
 use Rattle.definitions.specs.Usage.{nodes, nodes_of, all_nodes, buffer, memory, top_nodes}
 use Rattle.definitions.specs.Command.{argument_width}
 use Rattle.definitions.specs.Stream.{read, ◌then◌, number, read_node, read_nodes, read_counted, whole, memory_of, top_of, list_of}
@@ -22,23 +22,23 @@ pub nothing_first : (s : List ℕ) → length s ≡ 0 → get_or s 0 0 ≡ 0
 nothing_first s e = get_or-eq_default s 0 {n = 0} (omega arith)
 
 pub memory_node : (s : List ℕ) → get_or s 0 0 ≡ 0x0A → memory_of s ≡ whole (read_node (drop 1 s))
-unfolding memory_of if◌then◌else◌
+unfolding memory_of when◌then◌else◌
 memory_node [] h = absurd (omega arith)
 memory_node (c ∷ bs) h = rw (eq-eqb c 0x0A h)
 
 pub memory_other : (s : List ℕ) → (get_or s 0 0 ≡ 0x0A → ⊥) → memory_of s ≡ nothing
-unfolding memory_of if◌then◌else◌
+unfolding memory_of when◌then◌else◌
 memory_other [] h = refl
 memory_other (c ∷ bs) h = rw (ne_eqb c 0x0A h)
 
 pub top_opaque : (s : List ℕ) → get_or s 0 0 ≡ 0x08 → top_of s ≡ opaque_of (drop 1 s)
-unfolding top_of if◌then◌else◌
+unfolding top_of when◌then◌else◌
 top_opaque [] h = absurd (omega arith)
 top_opaque (c ∷ bs) h = rw (eq-eqb c 0x08 h)
 
 -- a Buffer and a Memory tell what their node tells; their commands are next to each other
 pub top_node : (s : List ℕ) → 0x09 ≤ get_or s 0 0 → get_or s 0 0 ≤ 0x0A → told top_nodes top_bound (top_of s) ≡ told nodes type_bound (whole (read_node (drop 1 s)))
-unfolding top_of if◌then◌else◌
+unfolding top_of when◌then◌else◌
 top_node [] low high = absurd (omega arith)
 top_node (c ∷ bs) low high =
     elim (ℕ_discrete c 0x09) [
@@ -49,13 +49,13 @@ top_node (c ∷ bs) low high =
     ]
 
 pub top_other : (s : List ℕ) → (get_or s 0 0 ≡ 0x08 → ⊥) → (0x09 ≤ get_or s 0 0 → get_or s 0 0 ≤ 0x0A → ⊥) → top_of s ≡ nothing
-unfolding top_of if◌then◌else◌
+unfolding top_of when◌then◌else◌
 top_other [] not out = refl
 top_other (c ∷ bs) not out =
     rw (ne_eqb c 0x08 not, ne_eqb c 0x09 (λ e. out (omega arith) (omega arith)), ne_eqb c 0x0A (λ e. out (omega arith) (omega arith)))
 
 pub list_other : (s : List ℕ) → (get_or s 0 0 ≡ 0x0B → ⊥) → list_of s ≡ nothing
-unfolding list_of if◌then◌else◌
+unfolding list_of when◌then◌else◌
 list_other [] h = refl
 list_other (c ∷ bs) h = rw (ne_eqb c 0x0B h)
 
@@ -64,7 +64,7 @@ counted : (k : ℕ) (bs : List ℕ) → read_nodes (suc k) bs ≡ read_counted (
 counted k bs = sym (then_then (read_node bs) _ _ λ u bs₁. then_then (read_nodes k bs₁) _ _ λ us rest. refl)
 
 list_is : (s : List ℕ) → get_or s 0 0 ≡ 0x0B → list_of s ≡ whole (number (argument_width 0x0B) (drop 1 s) then read_counted)
-unfolding list_of if◌then◌else◌
+unfolding list_of when◌then◌else◌
 list_is [] h = absurd (omega arith)
 list_is (c ∷ bs) h = rw (eq-eqb c 0x0B h)
 

@@ -7,7 +7,7 @@ use mathlib.Core.List.{List, [], ◌∷◌}
 use native.Mathlib.Omega.{arith}
 use borrow.Author.Tests.{eqb-true, eqb-false, ltb-true, ltb-false, ne_eqb}
 use lib.Dec.{ltb, eqb}
-use Rattle.definitions.specs.If.{if◌then◌else◌}
+use Rattle.definitions.specs.If.{when◌then◌else◌}
 use Rattle.definitions.specs.Usage.{Size, Usage}
 use Rattle.definitions.specs.Command.{Head, command_at, size_width, argument_width}
 use Rattle.definitions.specs.Stream.{Read, read, ◌then◌, number, read_size, body, node_by, read_node}
@@ -28,7 +28,7 @@ pub record Own (h : Head) : Type 0 where
 
 module _ (c : ℕ) (s : Size) (n : ℕ) (rest : List ℕ) where
   own_below : (node : List ℕ → Read Usage) → own c s n rest then below node ≡ body node c s n rest
-  unfolding if◌then◌else◌
+  unfolding when◌then◌else◌
   own_below node =
       decide Right (ltb 0x04 c)
       (λ e.

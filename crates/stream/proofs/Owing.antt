@@ -7,7 +7,7 @@ use mathlib.Core.List.{List, [], ◌∷◌}
 use native.Mathlib.Omega.{arith}
 use borrow.Author.Tests.{lt-ltb, le-ltb}
 use lib.ListN.{length}
-use Rattle.definitions.specs.If.{if◌then◌else◌}
+use Rattle.definitions.specs.If.{when◌then◌else◌}
 use Rattle.definitions.specs.Usage.{Entries, none, entry, ◌<+>◌, nodes, nodes_in}
 use Rattle.definitions.specs.Stream.{Read, broken, read, ◌then◌, number, read_node, read_entries}
 use Rattle.definitions.proofs.Nodes.{append_nodes}
@@ -52,11 +52,11 @@ pending_shut n t p ls k bs = then_same (read_node bs) λ u rest. owing_shut (n +
 
 module _ (n t m p : ℕ) (ls : List Level) (k : ℕ) (bs : List ℕ) {o : ℕ} {bs₁ : List ℕ} (here : number 4 bs ≡ read o bs₁) where
   pub level_falls : o < p → owing n t (level (suc m) p ∷ ls) k bs ≡ broken
-  unfolding if◌then◌else◌
+  unfolding when◌then◌else◌
   level_falls lt = owing_level n t (suc m) p ls k bs ∙ rw (here, lt-ltb o p lt)
 
   pub level_next : p ≤ o → owing n t (level (suc m) p ∷ ls) k bs ≡ pending n t (level m (suc o) ∷ ls) k bs₁
-  unfolding if◌then◌else◌ pending
+  unfolding when◌then◌else◌ pending
   level_next le =
       owing_level n t (suc m) p ls k bs
       ∙ rw (here, le-ltb o p le)

@@ -9,7 +9,7 @@ use native.Mathlib.Omega.{arith}
 use borrow.Author.Tests.{lt-ltb, eq-eqb, ne_eqb}
 use lib.ListN.{length, get_or, drop, length-drop}
 use lib.Seq.{drop-length, get_or-drop}
-use Rattle.definitions.specs.If.{if◌then◌else◌}
+use Rattle.definitions.specs.If.{when◌then◌else◌}
 use Rattle.definitions.specs.Usage.{Size, dynamic}
 use Rattle.definitions.specs.Command.{Head, command_at, size_width, argument_width}
 use Rattle.definitions.specs.Stream.{broken, read, ◌then◌, number, read_size}
@@ -33,7 +33,7 @@ unfolding head
 head_none s at e = rw (e, drop-length)
 
 own_high : (c : ℕ) (z : Size) (n : ℕ) (rest : List ℕ) → 0x04 < c → own c z n rest ≡ broken
-unfolding if◌then◌else◌
+unfolding when◌then◌else◌
 own_high c z n rest high = rw (lt-ltb _ _ high)
 
 own_told : (c : ℕ) (z : Size) (n : ℕ) (rest : List ℕ) → Reads (λ h r. (h.command ≡ c) × (h.argument ≡ n) × (r ≡ rest)) (own c z n rest)
@@ -122,7 +122,7 @@ size_left (suc w) (flag ∷ bs) h =
     either (Reads _) _ (gives _ _ v.left) (either (Reads _) _ (either (Reads _) _ (gives _ _ v.left) stops) stops)
 
 entries_few : (h : Head) {c n : ℕ} → h.command ≡ c → h.argument ≡ n → n < 256 ^ argument_width c → entries_of h < 65536
-unfolding entries_of if◌then◌else◌ command_at
+unfolding entries_of when◌then◌else◌ command_at
 entries_few h {c} command argument few =
     elim (ℕ_discrete h.command 0x03) [
       | yes is ↦

@@ -6,7 +6,7 @@ use mathlib.Core.List.{List, ◌∷◌}
 use native.Mathlib.Omega.{arith}
 use borrow.Author.Tests.{eq-eqb, ne_eqb}
 use lib.Dec.{eqb}
-use Rattle.definitions.specs.If.{if◌then◌else◌}
+use Rattle.definitions.specs.If.{when◌then◌else◌}
 use Rattle.definitions.specs.Usage.{Size, Usage, map, array, nodes}
 use Rattle.definitions.specs.Command.{Head}
 use Rattle.definitions.specs.Stream.{Read, broken, read, ◌then◌, read_entries, read_node}
@@ -25,7 +25,7 @@ module _ (n t : ℕ) (ls : List Level) (k : ℕ) where
   -- what is read behind an own part
   abbrev behind : Head → List ℕ → Read Sum
   behind h bs =
-      if eqb h.command 0x04 then pending (n + 1) (max t (own_bound h)) ls k bs
+      when eqb h.command 0x04 then pending (n + 1) (max t (own_bound h)) ls k bs
       else owing (n + 1) (max t (own_bound h)) (level (entries_of h) 0 ∷ ls) k bs
 
   map_step : (z : Size) (m : ℕ) (bs : List ℕ)
@@ -35,13 +35,13 @@ module _ (n t : ℕ) (ls : List Level) (k : ℕ) where
       ∙ sym (owing_level (n + 1) (max t 0) m 0 ls k bs)
 
   array_step : (z : Size) (m : ℕ) (bs : List ℕ) → (m ≡ 0 → ⊥)
-      → (if eqb m 0 then broken else read_node bs then λ e rest. read (array z m e) rest) then on ≡ pending (n + 1) (max t 0) ls k bs
-  unfolding if◌then◌else◌ pending
+      → (when eqb m 0 then broken else read_node bs then λ e rest. read (array z m e) rest) then on ≡ pending (n + 1) (max t 0) ls k bs
+  unfolding when◌then◌else◌ pending
   array_step z m bs h = rw (ne_eqb m 0 h) (then_then (read_node bs) _ on λ e rest. owing_is ls rest (omega arith) (omega arith) refl)
 
   own_step : (c : ℕ) (z : Size) (m : ℕ) (bs : List ℕ)
       → (let h : Head = record { command = c; size = z; argument = m } in Own h → below read_node h bs then on ≡ behind h bs)
-  unfolding if◌then◌else◌ entries_of own_bound
+  unfolding when◌then◌else◌ entries_of own_bound
   own_step zero z m bs own = sym (owing_shut (n + 1) (max t 0) 0 ls k bs)
   own_step (suc zero) z m bs own = sym (owing_shut (n + 1) (max t (suc m)) 0 ls k bs)
   own_step (suc (suc zero)) z m bs own = sym (owing_shut (n + 1) (max t (suc m)) 0 ls k bs)
@@ -60,9 +60,9 @@ module _ (n t : ℕ) (ls : List Level) (k : ℕ) where
       step = rw (read_head bs, e) (own_step h.command h.size h.argument bs₁ (head_own bs h bs₁ e))
 
       pub step_element : h.command ≡ 0x04 → pending n t ls k bs ≡ pending (n + 1) (max t (own_bound h)) ls k bs₁
-      unfolding if◌then◌else◌
+      unfolding when◌then◌else◌
       step_element is = step ∙ rw (eq-eqb _ _ is)
 
       pub step_entries : (h.command ≡ 0x04 → ⊥) → pending n t ls k bs ≡ owing (n + 1) (max t (own_bound h)) (level (entries_of h) 0 ∷ ls) k bs₁
-      unfolding if◌then◌else◌
+      unfolding when◌then◌else◌
       step_entries not = step ∙ rw (ne_eqb _ _ not)

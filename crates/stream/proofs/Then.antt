@@ -5,7 +5,7 @@ use mathlib.Core.Path.{◌≡◌, refl}
 use mathlib.Core.Bool.{Bool, true, false}
 use mathlib.Core.List.{List}
 use native.Mathlib.Omega.{arith}
-use Rattle.definitions.specs.If.{if◌then◌else◌}
+use Rattle.definitions.specs.If.{when◌then◌else◌}
 use Rattle.definitions.specs.Stream.{Read, broken, read, ◌then◌}
 use Rattle.definitions.proofs.Reading.{Reads, stops, gives}
 
@@ -33,8 +33,8 @@ module _ {A : Type 0} where
   then_broken (gives a rest h) on = on a rest h
 
   -- a test that stops
-  pub else_reads : (t : Bool) {r : Read A} {a : A} {rest : List ℕ} → (if t then broken else r) ≡ read a rest → r ≡ read a rest
-  unfolding if◌then◌else◌
+  pub else_reads : (t : Bool) {r : Read A} {a : A} {rest : List ℕ} → (when t then broken else r) ≡ read a rest → r ≡ read a rest
+  unfolding when◌then◌else◌
   else_reads true e = never e
   else_reads false e = e
 

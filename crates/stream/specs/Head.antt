@@ -1,7 +1,7 @@
 -- A node's own part as it is read: its command, its size and its argument, before anything that stands further down.
 -- Assumes nothing.
 use Rattle.std.specs.Prelude.{ℕ, ◌+◌, ◌≤◌, ◌<◌, ◌≡◌, Bool, List, [], ◌∷◌, ltb, eqb, length, drop}
-use Rattle.definitions.specs.If.{if◌then◌else◌}
+use Rattle.definitions.specs.If.{when◌then◌else◌}
 use Rattle.definitions.specs.Usage.{Size, Usage}
 use Rattle.definitions.specs.Command.{Head, size_width, argument_width}
 use Rattle.definitions.specs.Stream.{Read, broken, read, ◌then◌, number, read_size, body}
@@ -15,13 +15,13 @@ use Rattle.stream.specs.declared.HeaderAt.TheVariants as headers
 -- nodes have commands up to 04, whose stride is not 0
 abbrev pub own : ℕ → Size → ℕ → List ℕ → Read Head
 own c s n rest =
-    if ltb 0x04 c then broken
-    else if eqb c 0x04 then (if eqb n 0 then broken else read (record { command = c; size = s; argument = n }) rest)
+    when ltb 0x04 c then broken
+    else when eqb c 0x04 then (when eqb n 0 then broken else read (record { command = c; size = s; argument = n }) rest)
     else read (record { command = c; size = s; argument = n }) rest
 
 -- r says whether a node has such a command and argument
 abbrev pub Known : ℕ → ℕ → Bool → Type 0
-Known c n r = (z : Size) (rest : List ℕ) → own c z n rest ≡ (if r then read (record { command = c; size = z; argument = n }) rest else broken)
+Known c n r = (z : Size) (rest : List ℕ) → own c z n rest ≡ (when r then read (record { command = c; size = z; argument = n }) rest else broken)
 
 -- the own part that the bytes begin with
 unfoldable pub head : List ℕ → Read Head

@@ -1,7 +1,7 @@
 -- The walk over the nodes of a stream, in their order: what is still to be read where it stands, and what that will have told.
 -- Assumes nothing.
 use Rattle.std.specs.Prelude.{ℕ, zero, suc, max, ◌+◌, ◌*◌, ◌≤◌, ◌<◌, ◌≡◌, Bool, true, false, List, [], ◌∷◌, eqb, length, drop}
-use Rattle.definitions.specs.If.{if◌then◌else◌}
+use Rattle.definitions.specs.If.{when◌then◌else◌}
 use Rattle.definitions.specs.Usage.{Usage, Entries, none, entry, nodes, nodes_in}
 use Rattle.definitions.specs.Command.{Head}
 use Rattle.definitions.specs.Stream.{Read, broken, read, ◌then◌, number, read_node, read_entries}
@@ -46,11 +46,11 @@ pub record Stands (x : Read Sum) (s : List ℕ) (at owed : ℕ) (ls : List Level
 
 -- the entries that a node opens
 unfoldable pub entries_of : Head → ℕ
-entries_of h = if eqb h.command 0x03 then h.argument else 0
+entries_of h = when eqb h.command 0x03 then h.argument else 0
 
 -- one more than the type of a leaf
 unfoldable pub own_bound : Head → ℕ
-own_bound h = if eqb h.command 0x01 then suc h.argument else if eqb h.command 0x02 then suc h.argument else 0
+own_bound h = when eqb h.command 0x01 then suc h.argument else when eqb h.command 0x02 then suc h.argument else 0
 
 -- an entry comes next, and so many are owed behind it; never more than s has bytes
 pub record Owes (s : List ℕ) (h : Head) (end owed owing : ℕ) : Type 0 where

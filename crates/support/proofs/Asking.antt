@@ -4,7 +4,7 @@ use Prim.Native.Nat.{ℕ}
 use mathlib.Core.Path.{◌≡◌}
 use mathlib.Core.Bool.{Bool, true, false}
 use mathlib.Core.List.{List}
-use Rattle.definitions.specs.If.{if◌then◌else◌}
+use Rattle.definitions.specs.If.{when◌then◌else◌}
 use Rattle.definitions.specs.Place.{asked}
 use Rattle.layout.specs.Places.{LayoutIs}
 use Rattle.layout.specs.declared.Components.{Components}
@@ -23,9 +23,9 @@ module _ {table places : List ℕ} {ty at : ℕ} {s : List ℕ} {q : ℕ} {r : T
 
   module _ {n d : ℕ} {cs : Components} {v : Bool} (y : r ≡ Concrete n d cs) (g : Supports table places ty at s q v) where
     pub yes_answers : v ≡ true → Answers table places ty at s q Yes
-    unfolding if◌then◌else◌
+    unfolding when◌then◌else◌
     yes_answers t = record { is = λ st k b u r lo hi a otherwise. rw (asked, layout_is l y st k b, ← g.is st k b u r lo hi a, t) }
 
     pub no_answers : v ≡ false → Answers table places ty at s q No
-    unfolding if◌then◌else◌
+    unfolding when◌then◌else◌
     no_answers t = record { is = λ st k b u r lo hi a otherwise. rw (asked, layout_is l y st k b, ← g.is st k b u r lo hi a, t) }

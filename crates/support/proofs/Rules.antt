@@ -6,7 +6,7 @@ use mathlib.Core.Bool.{Bool, true, false, ◌&&◌, ◌||◌}
 use mathlib.Core.List.{List}
 use lib.Dec.{eqb}
 use lib.ListN.{length}
-use Rattle.definitions.specs.If.{if◌then◌else◌}
+use Rattle.definitions.specs.If.{when◌then◌else◌}
 use Rattle.definitions.specs.Usage.{Size, Usage, size}
 use Rattle.definitions.specs.Table.{Setting, TypeLayout as Layout, concrete, handle, failed, layout_of, is_concrete}
 use Rattle.definitions.specs.Support.{Asking, outside, component_supports, itself, support_rules, supports}
@@ -26,8 +26,8 @@ use Rattle.support_memory.proofs.Roots.{size_is}
 use Rattle.support.proofs.Leaves.{unused_is, used-is}
 use Rattle.support.proofs.Types.{one_step, layout_is, components_of}
 
-either_or : (c b : Bool) → (if c then true else b) ≡ (c || b)
-unfolding if◌then◌else◌
+either_or : (c b : Bool) → (when c then true else b) ≡ (c || b)
+unfolding when◌then◌else◌
 either_or true b = refl
 either_or false b = refl
 
@@ -56,12 +56,12 @@ module _ {table places : List ℕ} {ty at : ℕ} {s : List ℕ} {q : ℕ} {r : T
 
     module _ {c : ℕ} (x : c ≡ command_in s q) where
       pub unused_supported : c ≡ 0 → Supports table places ty at s q true
-      unfolding if◌then◌else◌
+      unfolding when◌then◌else◌
       unused_supported z = by_rules λ st k b e u r lo hi a. rw (unused_is u s q r lo hi a x z)
 
       module _ {v : Bool} (z : c ≡ 0 → ⊥) (leaf : WholeLeaf ty at s q v) where
         pub leaf_supported : v ≡ true → Supports table places ty at s q true
-        unfolding if◌then◌else◌
+        unfolding when◌then◌else◌
         leaf_supported t = by_rules λ st k b e u r lo hi a. rw (used-is u s q r lo hi a x z, ← leaf.is u r lo hi a, t)
 
         module _ {g : Bool} {m : Size} (t : v ≡ false) (here : m ≡ size_in s q) (large : g ≡ (eqb d 0 && outside n at m)) where
@@ -69,11 +69,11 @@ module _ {table places : List ℕ} {ty at : ℕ} {s : List ℕ} {q : ℕ} {r : T
           large_is u r lo hi a = sym (large ∙ ap (λ (m : Size). eqb d 0 && outside n at m) (here ∙ size_is u s q r lo hi a))
 
           pub large_refused : g ≡ true → Supports table places ty at s q false
-          unfolding if◌then◌else◌
+          unfolding when◌then◌else◌
           large_refused f = by_rules λ st k b e u r lo hi a. rw (used-is u s q r lo hi a x z, ← leaf.is u r lo hi a, t, large_is u r lo hi a, f)
 
           pub left_open : g ≡ false → LeftOpen table places ty at s q
-          unfolding if◌then◌else◌
+          unfolding when◌then◌else◌
           left_open f = record {
             used = λ e. z (x ∙ e);
             parts = cs;

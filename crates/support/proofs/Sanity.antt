@@ -5,7 +5,7 @@ use native.Mathlib.Omega.{arith}
 use mathlib.Core.Path.{◌≡◌, refl}
 use mathlib.Core.Bool.{true, false}
 use mathlib.Core.List.{List, [], ◌∷◌, ◌++◌}
-use Rattle.definitions.specs.If.{if◌then◌else◌}
+use Rattle.definitions.specs.If.{when◌then◌else◌}
 use Rattle.definitions.specs.Usage.{Usage, leaf, fixed}
 use Rattle.definitions.specs.Stream.{bytes}
 use Rattle.definitions.specs.Table.{Setting, concrete, scalar, elements, table_of}
@@ -40,13 +40,13 @@ records_with_it : List ℕ
 records_with_it = bytes 32 0 ++ bytes 2 1 ++ bytes 2 1 ++ bytes 4 0 ++ bytes 4 1 ++ bytes 4 4 ++ bytes 4 0 ++ bytes 4 0 ++ bytes 8 0
 
 stands : (ty : ℕ) → ty < 2 → Placed table setting.table places ty
-unfolding table places setting first second if◌then◌else◌
+unfolding table places setting first second when◌then◌else◌
 stands zero l = record { kept = omega arith; rest = second; stands = refl; admits = refl }
 stands (suc zero) l = record { kept = omega arith; rest = []; stands = refl; admits = refl }
 stands (suc (suc ty)) l = absurd (omega arith)
 
 askable : Askable table places 1 records_with_it 1
-unfolding table setting first second asked records_with_it table_of if◌then◌else◌ Stands number_at
+unfolding table setting first second asked records_with_it table_of when◌then◌else◌ Stands number_at
 askable = record {
   type = record { setting = setting; known = record { read = refl; placed = stands }; below = omega arith };
   usage = record {
@@ -64,9 +64,9 @@ askable = record {
 -- each element supports it, and nothing between two of them does
 
 at_an_element : supports setting 1 12 asked ≡ true
-unfolding setting asked supports supports_in if◌then◌else◌
+unfolding setting asked supports supports_in when◌then◌else◌
 at_an_element = refl
 
 between_two : supports setting 1 6 asked ≡ false
-unfolding setting asked supports supports_in if◌then◌else◌
+unfolding setting asked supports supports_in when◌then◌else◌
 between_two = refl

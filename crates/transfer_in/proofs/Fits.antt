@@ -3,7 +3,7 @@
 use Prim.Native.Nat.{ℕ, suc, ◌^◌, ◌<◌}
 use mathlib.Core.Bool.{true, false}
 use native.Mathlib.Omega.{arith}
-use Rattle.definitions.specs.If.{if◌then◌else◌}
+use Rattle.definitions.specs.If.{when◌then◌else◌}
 use Rattle.definitions.specs.Usage.{In32, Usage, unused, leaf, map, array, Entries, none, entry, ◌<+>◌}
 use Rattle.definitions.specs.Command.{head_of, command_at, argument_width}
 use Rattle.definitions.proofs.Writable.{Writable, Ascending}
@@ -25,7 +25,7 @@ ascending_fit p none a = tt
 ascending_fit p (entry o u es) a = (omega arith, a.2, ascending_fit (suc o) es a.3)
 
 pub behind_fit : (u : Usage) (es : Entries) → Writable u → Fit 4 es → Fit (front_behind (head_of u).command) (behind u es)
-unfolding front_behind if◌then◌else◌
+unfolding front_behind when◌then◌else◌
 behind_fit (unused z) es w f = f
 behind_fit (leaf z true t) es w f = f
 behind_fit (leaf z false t) es w f = f

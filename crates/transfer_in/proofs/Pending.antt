@@ -6,7 +6,7 @@ use mathlib.Core.Path.{◌≡◌, refl, sym, ◌∙◌}
 use mathlib.Core.Bool.{true, false}
 use mathlib.Core.List.{List, [], ◌++◌, append_assoc}
 use native.Mathlib.Omega.{arith}
-use Rattle.definitions.specs.If.{if◌then◌else◌}
+use Rattle.definitions.specs.If.{when◌then◌else◌}
 use Rattle.definitions.specs.Usage.{Usage, unused, leaf, map, array, Entries, none, entry, nodes, nodes_in, ◌<+>◌}
 use Rattle.definitions.specs.Command.{head_of}
 use Rattle.definitions.specs.Stream.{bytes, write_head, write_node, write_entries}
@@ -32,7 +32,7 @@ regroup front head inner outer e = rw e (simp append_assoc)
 
 -- what is left begins with the first node's own bytes
 pub own_first : (front o : ℕ) (u : Usage) (es : Entries) → pending front (entry o u es) ≡ own front o u ++ pending (front_behind (head_of u).command) (behind u es)
-unfolding front_behind if◌then◌else◌
+unfolding front_behind when◌then◌else◌
 own_first front o (unused z) es = rw (pending_entries es) (sym (append_assoc (bytes front o) (write_head (head_of (unused z))) (write_entries es)))
 own_first front o (leaf z true t) es = rw (pending_entries es) (sym (append_assoc (bytes front o) (write_head (head_of (leaf z true t))) (write_entries es)))
 own_first front o (leaf z false t) es = rw (pending_entries es) (sym (append_assoc (bytes front o) (write_head (head_of (leaf z false t))) (write_entries es)))

@@ -7,7 +7,7 @@ use native.Mathlib.Omega.{arith}
 use borrow.Author.Tests.{eq-eqb, ne_eqb}
 use lib.Dec.{eqb}
 use lib.ListN.{length, length-append}
-use Rattle.definitions.specs.If.{if◌then◌else◌}
+use Rattle.definitions.specs.If.{when◌then◌else◌}
 use Rattle.definitions.specs.Usage.{Size, fixed, dynamic, In32, Usage, unused, leaf, map, array}
 use Rattle.definitions.specs.Command.{Head, head_of, size_width, argument_width}
 use Rattle.definitions.specs.Stream.{bytes, write_size, write_head}
@@ -19,11 +19,11 @@ use Rattle.numbers.proofs.Widths.{size_width_lem as width}
 use Rattle.transfer_in.specs.Nodes.{SizeWidth, own_width, front_behind, own}
 
 pub front_array : (r c : ℕ) → r ≡ c → r ≡ 4 → 0 ≡ front_behind c
-unfolding front_behind if◌then◌else◌
+unfolding front_behind when◌then◌else◌
 front_array r c e h = rw (eq-eqb c 4 (sym e ∙ h))
 
 pub front_other : (r c : ℕ) → r ≡ c → (r ≡ 4 → ⊥) → 4 ≡ front_behind c
-unfolding front_behind if◌then◌else◌
+unfolding front_behind when◌then◌else◌
 front_other r c e h = rw (ne_eqb c 4 (λ h'. h (e ∙ h')))
 
 pub size_length : (w : ℕ) (z : Size) → length (write_size w z) ≡ w

@@ -1,7 +1,7 @@
 -- One node of a stream: its own part, with its offset in front where it is a map's entry.
 -- Assumes nothing.
 use Rattle.std.specs.Prelude.{ℕ, ◌+◌, ◌-◌, ◌^◌, ◌<◌, ◌≤◌, ◌≡◌, List, ◌++◌, eqb, get_or, drop}
-use Rattle.definitions.specs.If.{if◌then◌else◌}
+use Rattle.definitions.specs.If.{when◌then◌else◌}
 use Rattle.definitions.specs.Usage.{Size, In32, Usage}
 use Rattle.definitions.specs.Command.{head_of, size_width, argument_width}
 use Rattle.definitions.specs.Stream.{bytes, write_head}
@@ -24,7 +24,7 @@ own_width c = 1 + size_width c + argument_width c
 -- The bytes of the offset in front of the node behind one of command c: behind an array comes its element, which has none, and
 -- behind any other node only an entry can come.
 unfoldable pub front_behind : ℕ → ℕ
-front_behind c = if eqb c 0x04 then 0 else 4
+front_behind c = when eqb c 0x04 then 0 else 4
 
 -- a node's own bytes
 abbrev pub own : ℕ → ℕ → Usage → List ℕ

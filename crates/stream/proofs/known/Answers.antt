@@ -1,16 +1,16 @@
 -- `known` meets its contract: both make the same tests, in the same order.
 use native.Mathlib.Omega.{arith}
 use borrow.Author.Tests.{ne_eqb, lt-ltb, le-ltb}
-use Rattle.definitions.specs.If.{if◌then◌else◌}
+use Rattle.definitions.specs.If.{when◌then◌else◌}
 use Rattle.stream.proofs.Deciding.{known_array}
 use Rattle.stream.proofs.known.Goals as goal
 
 pub returns-then-command-gt-ARRAY : goal.returns-then-command-gt-ARRAY
-unfolding if◌then◌else◌
+unfolding when◌then◌else◌
 returns-then-command-gt-ARRAY c z rest = rw (lt-ltb 0x04 c.args.command (omega arith))
 
 pub returns-then-command-ne-ARRAY : goal.returns-then-command-ne-ARRAY
-unfolding if◌then◌else◌
+unfolding when◌then◌else◌
 returns-then-command-ne-ARRAY c z rest =
     let k = c.args.command in
     rw (le-ltb 0x04 k (omega arith), ne_eqb k 0x04 c.if-command-ne-ARRAY.true)

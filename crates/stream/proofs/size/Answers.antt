@@ -1,7 +1,7 @@
 -- `size` meets its contract: both choose by the flag, and then by the number.
 use native.Mathlib.Omega.{arith}
 use borrow.Author.Tests.{ne_eqb}
-use Rattle.definitions.specs.If.{if◌then◌else◌}
+use Rattle.definitions.specs.If.{when◌then◌else◌}
 use Rattle.stream.proofs.Places.{size_at_lem}
 use Rattle.stream.proofs.size.Goals as goal
 
@@ -9,13 +9,13 @@ pub returns-then-width-eq0 : goal.returns-then-width-eq0
 returns-then-width-eq0 c = rw c.if-width-eq0.true
 
 pub returns-in-1 : goal.returns-in-1
-unfolding if◌then◌else◌
+unfolding when◌then◌else◌
 returns-in-1 c =
     let a = c.args in
     rw (size_at_lem a.width a.s.now a.at c.if-width-eq0.false (omega arith), ← c.number-n.ensures, c.in-1.is)
 
 pub returns-then-n-eq0 : goal.returns-then-n-eq0
-unfolding if◌then◌else◌
+unfolding when◌then◌else◌
 returns-then-n-eq0 c =
     let a = c.args in
     rw (
@@ -26,7 +26,7 @@ returns-then-n-eq0 c =
     )
 
 pub returns-else-n-eq0 : goal.returns-else-n-eq0
-unfolding if◌then◌else◌
+unfolding when◌then◌else◌
 returns-else-n-eq0 c =
     let a = c.args in
     rw (
@@ -37,7 +37,7 @@ returns-else-n-eq0 c =
     )
 
 pub returns-in_default : goal.returns-in_default
-unfolding if◌then◌else◌
+unfolding when◌then◌else◌
 returns-in_default c =
     let a = c.args in
     rw (

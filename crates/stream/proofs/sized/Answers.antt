@@ -2,7 +2,7 @@
 use mathlib.Core.Path.{◌≡◌, ap, ◌∙◌}
 use native.Mathlib.Omega.{arith}
 use lib.ListN.{drop}
-use Rattle.definitions.specs.If.{if◌then◌else◌}
+use Rattle.definitions.specs.If.{when◌then◌else◌}
 use Rattle.definitions.specs.Command.{Head, size_width}
 use Rattle.definitions.specs.Stream.{read, broken}
 use Rattle.qptr.specs.Values.{size_of}
@@ -37,26 +37,26 @@ returns-in_default-size c =
     rw (part.reads, ← width, none)
 
 pub returns-then-not-known : goal.returns-then-not-known
-unfolding if◌then◌else◌
+unfolding when◌then◌else◌
 returns-then-not-known c =
     let part : (let a = c.args in
     OutlineAt a.s.now a.at c.in-Header.node c.in-Header.end) = rw c.in-Header.is at c.requires in
     let width : c.of_node.result.size ≡ size_width c.in-Header.node.command = ap (λ r. r.size) c.of_node.ensures in
     let whole : (let a = c.args in
     let own : Head = record { command = c.in-Header.node.command; size = size_of c.in-Size.size; argument = c.in-Header.node.argument } in
-    head (drop a.at a.s.now) ≡ (if c.known.result then read own (drop c.in-Header.end a.s.now) else broken)) = let sized = rw c.in-Size.is at c.size.ensures in
+    head (drop a.at a.s.now) ≡ (when c.known.result then read own (drop c.in-Header.end a.s.now) else broken)) = let sized = rw c.in-Size.is at c.size.ensures in
     rw (part.reads, ← width, sized) (c.known.ensures _ _) in
     whole ∙ rw c.if-not-known.true
 
 pub returns : goal.returns
-unfolding if◌then◌else◌
+unfolding when◌then◌else◌
 returns c =
     let part : (let a = c.args in
     OutlineAt a.s.now a.at c.in-Header.node c.in-Header.end) = rw c.in-Header.is at c.requires in
     let width : c.of_node.result.size ≡ size_width c.in-Header.node.command = ap (λ r. r.size) c.of_node.ensures in
     let whole : (let a = c.args in
     let own : Head = record { command = c.in-Header.node.command; size = size_of c.in-Size.size; argument = c.in-Header.node.argument } in
-    head (drop a.at a.s.now) ≡ (if c.known.result then read own (drop c.in-Header.end a.s.now) else broken)) = let sized = rw c.in-Size.is at c.size.ensures in
+    head (drop a.at a.s.now) ≡ (when c.known.result then read own (drop c.in-Header.end a.s.now) else broken)) = let sized = rw c.in-Size.is at c.size.ensures in
     rw (part.reads, ← width, sized) (c.known.ensures _ _) in
     let here = part in
     let read = rw c.if-not-known.false at whole in
