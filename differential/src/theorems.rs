@@ -27,7 +27,7 @@ const SOURCES: [Source; 3] = [Source::Sound, Source::Unsound, Source::Damaged];
 const HEADER: &str = "\
 -- Calls with their answers: the definitions compute what the Rust says. Written by a program.
 use Rattle.std.specs.Prelude.{◌≡◌, refl, ℕ, Bool, true, false, List, [], ◌∷◌, ◌++◌, replicate}
-use Rattle.definitions.specs.If.{if◌then◌else◌}
+use Rattle.definitions.specs.If.{when◌then◌else◌}
 use Rattle.definitions.specs.Command.{command_at}
 use Rattle.definitions.specs.Stream.{read_node, read_node_in, top_of, memory_of, list_of}
 use Rattle.definitions.specs.Table.{table_of}
@@ -37,7 +37,7 @@ use Rattle.definitions.specs.Calls.{Answer, Written, part_of, receiver_of, recei
 ";
 
 /// All definitions that stay folded unless a theorem names them.
-const UNFOLDED: &str = "if◌then◌else◌ command_at read_node read_node_in top_of memory_of list_of table_of \
+const UNFOLDED: &str = "when◌then◌else◌ command_at read_node read_node_in top_of memory_of list_of table_of \
     supports supports_in place place_in merge_mem fold receiver_of receiver_call supports_call place_call \
     merge_call fold_call sound_call";
 
