@@ -1,7 +1,7 @@
 #!/usr/bin/env bash
 # Proves what C and Rust link, and writes it to target/staticlib/libNAME.a: the calls (exports), or the part of receiver (receiver_part).
 #   bash staticlib.sh [--proved] exports|receiver_part
-# The calls for C are the crate exports_c; their archive keeps the name libexports.a, which C callers know. With --proved, for use right
+# What C calls is the crate exports_c (receiver_part_c); the archive has the name without `_c`, which C callers know. With --proved, for use right
 # after `rt ci` in this checkout, the libraries below are taken as it left them: `rt lib` cannot, and would prove each of them once more.
 set -euo pipefail
 cd "$(dirname "$0")"
@@ -13,8 +13,7 @@ if [ "${1:-}" = --proved ]; then
 fi
 name=${1:-}
 case $name in
-  exports) crate=exports_c ;;
-  receiver_part) crate=receiver_part ;;
+  exports | receiver_part) crate=${name}_c ;;
   *)
     echo "staticlib.sh: give exports or receiver_part, not '$name'" >&2
     exit 2

@@ -1,4 +1,5 @@
-// The part that `receiver` hands back, given to C, which sees where it lies and how long it is. For the comparison alone.
+// The part that `receiver` hands back, as a value in a place that the caller lends. For the comparison alone, which sees where it lies and
+// how long it is.
 #![tactic(auto)]
 
 ghost use Rattle.std.specs.Prelude.{◌≡◌};
@@ -11,8 +12,7 @@ pub struct Part<'a> {
 }
 
 // No exported function returns a reference, so the part goes into a place that the caller lends.
-#[unsafe(no_mangle)]
-pub extern "C" fn qptr_receiver_part<'a>(first: &'a [u8], second: &'a [u8], part: &mut Part<'a>)
+pub fn qptr_receiver_part<'a>(first: &'a [u8], second: &'a [u8], part: &mut Part<'a>)
     ensures { part.new.bytes.now ≡ receiver_call first.now second.now }
 {
     part.bytes = calls::receiver(first, second);
