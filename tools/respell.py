@@ -9,7 +9,6 @@ The library has an operator `if .. then .. else ..` of its own now, and no repos
 """
 import os
 import re
-import subprocess
 import sys
 
 NAME = re.compile(r"[^\W\d][\w'₀-₉]*(?:-[\w'₀-₉]+)*'*", re.UNICODE)
