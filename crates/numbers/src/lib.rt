@@ -1,34 +1,39 @@
-// Numbers in lent bytes, the lowest byte first.
+// Numbers in lent bytes, the lowest byte first. `number` and `put_number` are the functions for every width; two and four bytes have a
+// function each besides, where the width is known: each is one call of the library, and that has another one for each width.
 #![tactic(auto)]
 
-ghost use Rattle.std.specs.Prelude.{◌≡◌, ◌+◌, ◌*◌, ◌<◌, ◌≤◌, length};
+ghost use Rattle.std.specs.Prelude.{◌≡◌, ◌+◌, ◌<◌, ◌≤◌, length};
 ghost use Rattle.numbers.specs.Words.{Width, number_at, put_at, word, put};
 
-fn wide(x: u8) -> u32
-    ensures { (result ≡ x) × (result < 256) }
+// The number in two bytes.
+pub fn get16(s: &[u8], i: usize) -> u32
+    requires { i + 2 ≤ length s.now }
+    ensures { (result ≡ number_at 2 s.now i) × (result < 65536) }
 {
-    x as u32
+    u32::from(u16::from_le_bytes([s[i], s[i + 1]]))
 }
 
-// The number in four bytes, the lowest first.
+// The lowest two bytes of a number.
+pub fn put16(s: &mut [u8], i: usize, v: u32)
+    requires { i + 2 ≤ length s.old }
+    ensures { s.new ≡ put_at 2 s.old i v }
+{
+    s[i..i + 2].copy_from_slice(&v.to_le_bytes()[..2]);
+}
+
+// The number in four bytes.
 pub fn get32(s: &[u8], i: usize) -> u32
     requires { i + 4 ≤ length s.now }
     ensures { result ≡ word s.now i }
 {
-    wide(s[i]) + wide(s[i + 1]) * 256 + wide(s[i + 2]) * 65536 + wide(s[i + 3]) * 16777216
+    u32::from_le_bytes([s[i], s[i + 1], s[i + 2], s[i + 3]])
 }
 
 pub fn put32(s: &mut [u8], i: usize, v: u32)
     requires { i + 4 ≤ length s.old }
     ensures { s.new ≡ put s.old i v }
 {
-    let v1 = v / 256;
-    let v2 = v1 / 256;
-    let v3 = v2 / 256;
-    s[i] = (v % 256) as u8;
-    s[i + 1] = (v1 % 256) as u8;
-    s[i + 2] = (v2 % 256) as u8;
-    s[i + 3] = (v3 % 256) as u8;
+    s[i..i + 4].copy_from_slice(&v.to_le_bytes());
 }
 
 // The number in w bytes.
@@ -36,25 +41,20 @@ pub fn number(s: &[u8], i: usize, w: usize) -> u32
     requires { Width w × (i + w ≤ length s.now) }
     ensures { result ≡ number_at w s.now i }
 {
-    if w == 4 {
-        return get32(s, i);
+    match w {
+        4 => get32(s, i),
+        2 => get16(s, i),
+        _ => 0,
     }
-    if w == 2 {
-        return wide(s[i]) + wide(s[i + 1]) * 256;
-    }
-    0
 }
 
 pub fn put_number(s: &mut [u8], i: usize, w: usize, v: u32)
     requires { Width w × (i + w ≤ length s.old) }
     ensures { s.new ≡ put_at w s.old i v }
 {
-    if w == 4 {
-        put32(s, i, v);
-        return;
-    }
-    if w == 2 {
-        s[i] = (v % 256) as u8;
-        s[i + 1] = (v / 256 % 256) as u8;
+    match w {
+        4 => put32(s, i, v),
+        2 => put16(s, i, v),
+        _ => (),
     }
 }

@@ -2,24 +2,31 @@
 -- A node is made of its operands: whatever they are, some usage has them.
 -- Assumes nothing.
 use Prim.Native.Nat.{ℕ, zero, suc, ◌≤◌}
-use mathlib.Core.Path.{◌≡◌, refl, ap, ◌∙◌}
+use mathlib.Core.Path.{◌≡◌, refl, sym, ap, ◌∙◌}
 use mathlib.Core.Bool.{Bool, true, false}
-use native.Mathlib.Decide.{ℕ_discrete}
-use borrow.Author.Tests.{ne_eqb, le-ltb}
+use native.Mathlib.Omega.{arith}
 use lib.Dec.{ltb}
 use Rattle.definitions.specs.If.{when◌then◌else◌}
 use Rattle.definitions.specs.Usage.{Size, Usage, UNUSED, unused, leaf, map, array, size, Entries, none, entry, count}
 use Rattle.definitions.specs.Command.{Head, head_of, command_at, strictness}
 use Rattle.definitions.specs.Place.{◌<ˢ◌}
 use Rattle.qptr.specs.declared.Node.{Node}
-use Rattle.qptr.specs.Values.{size_of, part_by, Stands, Receives}
+use Rattle.qptr.specs.declared.TheConstants.Node as Constants
+use Rattle.std.specs.Ordering.{partial_lt}
+use Rattle.qptr.specs.declared.Strictness.{Strictness}
+use Rattle.qptr.specs.contracts.MaxSizePartialOrd.TheImpl.{partial_cmp-value as size_cmp}
+use Rattle.qptr.specs.contracts.StrictnessPartialOrd.TheImpl.{partial_cmp-value as strictness_cmp}
+use Rattle.qptr.proofs.Orders.{less_size, less_strict}
+use Rattle.qptr.specs.declared.Kind.{Kind}
+use Rattle.qptr.specs.declared.Kind.TheVariants.{Unused, StrictlyTyped, DirectAccess, OffsetBase, DynOffsetBase}
+use Rattle.qptr.specs.Values.{size_of, strictness_of, command_of, kind_of, part_by, Stands, Receives}
 
 -- `first_receives`, of nodes
 abbrev pub node_receives : Node → Node → Bool
 node_receives a b =
     when size_of b.size <ˢ size_of a.size then true
     else when size_of a.size <ˢ size_of b.size then false
-    else ltb (command_at b.command).strictness (command_at a.command).strictness
+    else ltb (command_at (command_of b.kind)).strictness (command_at (command_of a.kind)).strictness
 
 head_size : (u : Usage) → (head_of u).size ≡ size u
 head_size (unused s) = refl
@@ -31,7 +38,7 @@ module _ (n : Node) (u : Usage) (stands : Stands n u) where
   same_size : size_of n.size ≡ size u
   same_size = ap (λ (h : Head). h.size) stands ∙ head_size u
 
-  same_strictness : (command_at n.command).strictness ≡ strictness u
+  same_strictness : (command_at (command_of n.kind)).strictness ≡ strictness u
   same_strictness = ap (λ (h : Head). (command_at h.command).strictness) stands
 
 pub receives : {a b : Node} {r : Bool} → r ≡ node_receives a b → Receives a b r
@@ -39,15 +46,95 @@ receives {a} {b} e = record {
   of = λ u v p q. rw (← same_size a u p, ← same_size b v q, ← same_strictness a u p, ← same_strictness b v q) e;
 }
 
+-- the code's tests, in its order; larger is whether b is the larger, smaller whether a is
+
+pub first_larger : (a b : Node) (larger : Bool) → larger ≡ partial_lt size_cmp.it b.size a.size → larger ≡ true → Receives a b true
+unfolding when◌then◌else◌
+first_larger a b larger e is =
+    let test = sym (less_size b.size a.size) ∙ sym e ∙ is in
+    receives (rw test refl)
+
+pub second_larger : (a b : Node) (larger smaller : Bool) → larger ≡ partial_lt size_cmp.it b.size a.size → larger ≡ false
+    → smaller ≡ partial_lt size_cmp.it a.size b.size → smaller ≡ true → Receives a b false
+unfolding when◌then◌else◌
+second_larger a b larger smaller e not f is =
+    let test = sym (less_size b.size a.size) ∙ sym e ∙ not in
+    let test' = sym (less_size a.size b.size) ∙ sym f ∙ is in
+    receives (rw (test, test') refl)
+
+pub by_strictness : (a b : Node) (larger smaller : Bool) (s t : Strictness) (stricter : Bool) → larger ≡ partial_lt size_cmp.it b.size a.size → larger ≡ false
+    → smaller ≡ partial_lt size_cmp.it a.size b.size → smaller ≡ false
+    → strictness_of s ≡ (command_at (command_of b.kind)).strictness → strictness_of t ≡ (command_at (command_of a.kind)).strictness
+    → stricter ≡ partial_lt strictness_cmp.it s t → Receives a b stricter
+unfolding when◌then◌else◌
+by_strictness a b larger smaller s t stricter e not f nor es et g =
+    let test = sym (less_size b.size a.size) ∙ sym e ∙ not in
+    let test' = sym (less_size a.size b.size) ∙ sym f ∙ nor in
+    receives (rw (test, test', ← es, ← et) (g ∙ less_strict s t))
+
 pub entries_of_lem : (n : ℕ) → (es : Entries) × (count es ≡ n)
 entries_of_lem zero = (none, refl)
 entries_of_lem (suc n) = let more = entries_of_lem n in (entry 0 UNUSED more.0, ap suc more.1)
 
--- a node's command and operands are its own part
-pub part_is : (c : ℕ) (z : Size) (n : ℕ) → c ≤ 0x04 → (c ≡ 0x00 → n ≡ 0) → part_by c z n ≡ record { command = c; size = z; argument = n }
-unfolding when◌then◌else◌
-part_is c z n known bare =
-    elim (ℕ_discrete c 0x00) [
-      | yes is ↦ rw (is, bare is)
-      | no not ↦ rw (ne_eqb c 0x00 not, le-ltb 0x04 c known)
-    ]
+-- the constant of the node type is the definitions' placeholder
+pub unused_stands : Stands Constants.UNUSED UNUSED
+unused_stands = refl
+
+-- kinds and commands, both ways
+
+pub kind_command : (k : Kind) → kind_of (command_of k) ≡ k
+kind_command Unused = refl
+kind_command StrictlyTyped = refl
+kind_command DirectAccess = refl
+kind_command OffsetBase = refl
+kind_command DynOffsetBase = refl
+
+pub command_kind : (c : ℕ) → c ≤ 0x04 → command_of (kind_of c) ≡ c
+command_kind zero h = refl
+command_kind (suc zero) h = refl
+command_kind (suc (suc zero)) h = refl
+command_kind (suc (suc (suc zero))) h = refl
+command_kind (suc (suc (suc (suc zero)))) h = refl
+command_kind (suc (suc (suc (suc (suc c))))) h = absurd (omega arith)
+
+pub command_small : (k : Kind) → command_of k ≤ 0x04
+command_small Unused = omega arith
+command_small StrictlyTyped = omega arith
+command_small DirectAccess = omega arith
+command_small OffsetBase = omega arith
+command_small DynOffsetBase = omega arith
+
+-- what is not the placeholder's kind tells the command
+pub known_command : (c : ℕ) (k : Kind) → k ≡ kind_of c → (k ≡ Unused → ⊥) → c ≡ command_of k
+known_command zero k e some = absurd (some e)
+known_command (suc zero) k e some = rw e refl
+known_command (suc (suc zero)) k e some = rw e refl
+known_command (suc (suc (suc zero))) k e some = rw e refl
+known_command (suc (suc (suc (suc zero)))) k e some = rw e refl
+known_command (suc (suc (suc (suc (suc c))))) k e some = absurd (some e)
+
+pub map_command : {c : ℕ} {k : Kind} → k ≡ kind_of c → k ≡ OffsetBase → c ≡ 3
+map_command {c} e h = known_command c OffsetBase (sym h ∙ e) (λ z. cc)
+
+pub array_command : {c : ℕ} {k : Kind} → k ≡ kind_of c → k ≡ DynOffsetBase → c ≡ 4
+array_command {c} e h = known_command c DynOffsetBase (sym h ∙ e) (λ z. cc)
+
+-- a usage's own part has some kind's command
+
+pub head_small : (u : Usage) → (head_of u).command ≤ 0x04
+head_small (unused z) = omega arith
+head_small (leaf z true t) = omega arith
+head_small (leaf z false t) = omega arith
+head_small (map z es) = omega arith
+head_small (array z n e) = omega arith
+
+pub kind_head : (k : Kind) (u : Usage) → k ≡ kind_of (head_of u).command → (head_of u).command ≡ command_of k
+kind_head k u e = rw e (sym (command_kind (head_of u).command (head_small u)))
+
+-- a node's kind and operands are its own part
+pub part_is : (k : Kind) (z : Size) (n : ℕ) → (k ≡ Unused → n ≡ 0) → part_by k z n ≡ record { command = command_of k; size = z; argument = n }
+part_is Unused z n bare = rw (bare refl) refl
+part_is StrictlyTyped z n bare = refl
+part_is DirectAccess z n bare = refl
+part_is OffsetBase z n bare = refl
+part_is DynOffsetBase z n bare = refl

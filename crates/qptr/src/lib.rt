@@ -1,41 +1,100 @@
 // Sizes, commands and memory nodes: the values of the source's `qptr/mod.rs` and `qptr/shapes.rs`.
 #![tactic(auto)]
 
-ghost use Rattle.std.specs.Prelude.{◌≡◌, true, false};
+ghost use Rattle.std.specs.Prelude.{◌≡◌, ◌<◌, true, false, Result};
 ghost use Rattle.definitions.specs.Usage.{Usage, unused, leaf, map, array, Entries, count};
 ghost use Rattle.definitions.specs.Command.{command_at};
-ghost use Rattle.definitions.specs.Place.{◌<ˢ◌};
-ghost use Rattle.qptr.specs.Values.{size_of, row_of, part_of, part_by, Stands, Receives};
+ghost use Rattle.qptr.specs.Values.{size_of, row_of, strictness_of, command_of, kind_of, part_of, part_by, NamesKind, Stands, Receives};
 
-// The source's `max_size`: `Some` is Fixed, `None` is Dynamic.
-#[derive(Clone, Copy)]
+// The source's `max_size`: `Some` is Fixed, `None` is Dynamic. In Rust's order Dynamic is the largest.
+#[derive(Clone, Copy, PartialEq, Eq, PartialOrd, Ord)]
 pub enum MaxSize {
     Fixed(u32),
     Dynamic,
 }
 
-impl MaxSize {
-    // Rust's `<` on sizes: Dynamic is the largest.
-    pub fn lt(self, other: MaxSize) -> bool
-        ensures { result ≡ (size_of self <ˢ size_of other) }
-    {
-        match self {
-            MaxSize::Dynamic => false,
-            MaxSize::Fixed(m) => match other {
-                MaxSize::Dynamic => true,
-                MaxSize::Fixed(n) => m < n,
-            },
+// The kinds of memory nodes, in the order of their commands.
+#[derive(Clone, Copy, PartialEq, Eq)]
+pub enum Kind {
+    Unused,
+    StrictlyTyped,
+    DirectAccess,
+    OffsetBase,
+    DynOffsetBase,
+}
+
+// A number that is no node's command.
+#[derive(Clone, Copy, PartialEq, Eq)]
+pub struct NoKind;
+
+impl TryFrom<u32> for Kind {
+    type Error = NoKind;
+
+    ghost try_from_gives = { NamesKind };
+
+    fn try_from(command: u32) -> Result<Self, NoKind> {
+        match command {
+            0x00 => Ok(Kind::Unused),
+            0x01 => Ok(Kind::StrictlyTyped),
+            0x02 => Ok(Kind::DirectAccess),
+            0x03 => Ok(Kind::OffsetBase),
+            0x04 => Ok(Kind::DynOffsetBase),
+            _ => Err(NoKind),
         }
     }
 }
 
-// The widths in bytes of what follows a command, and the strictness of a node: 0 any, 1 array, 2 exact.
+impl Kind {
+    // The kind with this command. The placeholder's stands for a command that no node has.
+    pub fn of(command: u32) -> Kind
+        ensures { result ≡ kind_of command }
+    {
+        match command {
+            0x01 => Kind::StrictlyTyped,
+            0x02 => Kind::DirectAccess,
+            0x03 => Kind::OffsetBase,
+            0x04 => Kind::DynOffsetBase,
+            _ => Kind::Unused,
+        }
+    }
+
+    pub fn command(self) -> u8
+        ensures { result ≡ command_of self }
+    {
+        self as u8
+    }
+}
+
+// The commands of tops and of a list, which have no node's kind. They are bytes and no enum: a stream's first byte is compared with them.
+pub const OPAQUE: u8 = 0x08;
+
+pub const BUFFER: u8 = 0x09;
+
+pub const MEMORY: u8 = 0x0A;
+
+pub const LIST: u8 = 0x0B;
+
+#[derive(Clone, Copy, PartialEq, Eq, PartialOrd, Ord)]
+pub enum Strictness {
+    Any,
+    Array,
+    Exact,
+}
+
+// The widths in bytes of what follows a command, and the strictness of a node.
 #[derive(Clone, Copy)]
 pub struct Command {
-    pub size: u8,
-    pub argument: u8,
-    pub strictness: u8,
+    pub size: usize,
+    pub argument: usize,
+    pub strictness: Strictness,
 }
+
+// The row of what is no command, and of those without operands.
+const BARE: Command = Command {
+    size: 0,
+    argument: 0,
+    strictness: Strictness::Any,
+};
 
 // Indexed by command. The reader, the writer and the receiver rule all read this table.
 const COMMANDS: [Command; 12] = [
@@ -43,118 +102,84 @@ const COMMANDS: [Command; 12] = [
     Command {
         size: 5, // flag and number
         argument: 0,
-        strictness: 0,
+        strictness: Strictness::Any,
     },
     // 01 StrictlyTyped
     Command {
         size: 5,
         argument: 4, // type
-        strictness: 2,
+        strictness: Strictness::Exact,
     },
     // 02 DirectAccess
     Command {
         size: 5,
         argument: 4, // type
-        strictness: 2,
+        strictness: Strictness::Exact,
     },
     // 03 OffsetBase
     Command {
         size: 5,
         argument: 2, // count of entries
-        strictness: 0,
+        strictness: Strictness::Any,
     },
     // 04 DynOffsetBase
     Command {
         size: 5,
         argument: 4, // stride
-        strictness: 1,
+        strictness: Strictness::Array,
     },
     // 05 to 07: no command
-    Command {
-        size: 0,
-        argument: 0,
-        strictness: 0,
-    },
-    Command {
-        size: 0,
-        argument: 0,
-        strictness: 0,
-    },
-    Command {
-        size: 0,
-        argument: 0,
-        strictness: 0,
-    },
+    BARE,
+    BARE,
+    BARE,
     // 08 Opaque
     Command {
         size: 0,
         argument: 4, // type
-        strictness: 0,
+        strictness: Strictness::Any,
     },
     // 09 Buffer
-    Command {
-        size: 0,
-        argument: 0,
-        strictness: 0,
-    },
+    BARE,
     // 0A Memory
-    Command {
-        size: 0,
-        argument: 0,
-        strictness: 0,
-    },
+    BARE,
     // 0B a list
     Command {
         size: 0,
         argument: 2, // count of nodes
-        strictness: 0,
+        strictness: Strictness::Any,
     },
 ];
 
 impl Command {
-    // The row of a command; one past the table has an empty row.
+    // The row of a command; one past the table has an empty row. A node's command has an arm of its own, where its row is a constant:
+    // with an index that is not known, the whole table is laid out first, each time.
+    #[tactic(auto, unfolding(definitions::specs::Command::command_at))]
     pub fn of(command: u8) -> Command
         ensures { row_of result ≡ command_at command }
     {
-        let c = command as usize;
-        if c < 12 {
-            COMMANDS[c]
-        } else {
-            Command {
-                size: 0,
-                argument: 0,
-                strictness: 0,
-            }
-        }
-    }
-
-    // The same. A node's command has an arm of its own, where its row is a constant: with an index that is not known, the whole table is
-    // laid out first, each time.
-    pub fn of_node(command: u8) -> Command
-        ensures { row_of result ≡ command_at command }
-    {
         match command {
-            0x00 => Command::of(0x00),
-            0x01 => Command::of(0x01),
-            0x02 => Command::of(0x02),
-            0x03 => Command::of(0x03),
-            0x04 => Command::of(0x04),
-            _ => Command::of(command),
+            0x00 => COMMANDS[0x00],
+            0x01 => COMMANDS[0x01],
+            0x02 => COMMANDS[0x02],
+            0x03 => COMMANDS[0x03],
+            0x04 => COMMANDS[0x04],
+            0x05..=0x0B => COMMANDS[usize::from(command)],
+            _ => BARE,
         }
     }
 }
 
-// A memory node without its children: the source's `QPtrMemUsage`, whose kind is its command and its argument.
+// A memory node without its children: the source's `QPtrMemUsage`, whose kind is its kind and its argument.
 #[derive(Clone, Copy)]
 pub struct Node {
-    pub command: u8,
+    pub kind: Kind,
     pub size: MaxSize,
     pub argument: u32,
 }
 
 impl Node {
     pub const UNUSED: Node = Node {
-        command: 0x00,
+        kind: Kind::Unused,
         size: MaxSize::Fixed(0),
         argument: 0,
     };
@@ -163,9 +188,8 @@ impl Node {
         ensures { Stands result (unused (size_of size)) }
     {
         Node {
-            command: 0x00,
             size,
-            argument: 0,
+            ..Node::UNUSED
         }
     }
 
@@ -173,7 +197,7 @@ impl Node {
         ensures { Stands result (leaf (size_of size) true ty) }
     {
         Node {
-            command: 0x01,
+            kind: Kind::StrictlyTyped,
             size,
             argument: ty,
         }
@@ -183,7 +207,7 @@ impl Node {
         ensures { Stands result (leaf (size_of size) false ty) }
     {
         Node {
-            command: 0x02,
+            kind: Kind::DirectAccess,
             size,
             argument: ty,
         }
@@ -193,7 +217,7 @@ impl Node {
         ensures { (es : Entries) → count es ≡ entries → Stands result (map (size_of size) es) }
     {
         Node {
-            command: 0x03,
+            kind: Kind::OffsetBase,
             size,
             argument: entries,
         }
@@ -203,24 +227,29 @@ impl Node {
         ensures { (e : Usage) → Stands result (array (size_of size) stride e) }
     {
         Node {
-            command: 0x04,
+            kind: Kind::DynOffsetBase,
             size,
             argument: stride,
         }
     }
 
-    // The node with this command and these operands. An Unused has no argument. The placeholder stands for a command that no node has.
-    pub fn of(command: u8, size: MaxSize, argument: u32) -> Node
-        ensures { part_of result ≡ part_by command (size_of size) argument }
+    // The node of this kind with these operands. An Unused has no argument.
+    pub fn of(kind: Kind, size: MaxSize, argument: u32) -> Node
+        ensures { part_of result ≡ part_by kind (size_of size) argument }
     {
-        match command {
-            0x00 => Node::unused(size),
-            0x01 => Node::strictly_typed(size, argument),
-            0x02 => Node::direct_access(size, argument),
-            0x03 => Node::offset_base(size, argument),
-            0x04 => Node::dyn_offset_base(size, argument),
-            _ => Node::UNUSED,
+        match kind {
+            Kind::Unused => Node::unused(size),
+            Kind::StrictlyTyped => Node::strictly_typed(size, argument),
+            Kind::DirectAccess => Node::direct_access(size, argument),
+            Kind::OffsetBase => Node::offset_base(size, argument),
+            Kind::DynOffsetBase => Node::dyn_offset_base(size, argument),
         }
+    }
+
+    fn strictness(self) -> Strictness
+        ensures { strictness_of result ≡ (command_at (part_of self).command).strictness }
+    {
+        Command::of(self.kind.command()).strictness
     }
 }
 
@@ -228,13 +257,11 @@ impl Node {
 pub fn first_receives(a: Node, b: Node) -> bool
     ensures { Receives a b result }
 {
-    let a_size = a.size;
-    let b_size = b.size;
-    if b_size.lt(a_size) {
+    if b.size < a.size {
         return true;
     }
-    if a_size.lt(b_size) {
+    if a.size < b.size {
         return false;
     }
-    Command::of(b.command).strictness < Command::of(a.command).strictness
+    b.strictness() < a.strictness()
 }

@@ -2,45 +2,24 @@
 #![tactic(auto)]
 
 ghost use Rattle.std.specs.Prelude.{◌≡◌, ◌+◌, ◌*◌, ◌<◌, ◌≤◌, length};
-ghost use Rattle.qptr.specs.Values.{size_of};
-ghost use Rattle.numbers.specs.Words.{number_at, put_at};
+ghost use Rattle.qptr.specs.Values.{size_of, command_of, kind_of};
 ghost use Rattle.records.specs.Records.{command_in, next_in, child_in, count_in, size_in, argument_in, offset_in, tag_in, past_in, cell, with_next, with_child, with_count, with_size, with_argument, with_offset, with_type, alone, Set, Marked};
 
-use numbers::{get32, put32};
-use qptr::MaxSize;
+use numbers::{get16, get32, put16, put32};
+use qptr::{Kind, MaxSize};
 
 // The bytes of a record.
 pub const WIDTH: usize = 32;
 
-fn wide(x: u8) -> u32
-    ensures { (result ≡ x) × (result < 256) }
-{
-    x as u32
-}
+// The parts of record q. Each function asks that the record lies within the area: a struct over the bytes would ask the same at each
+// of its methods, since q is another one from call to call.
 
-// The number in two bytes, the lowest first.
-fn get16(s: &[u8], i: usize) -> u32
-    requires { i + 2 ≤ length s.now }
-    ensures { (result ≡ number_at 2 s.now i) × (result < 65536) }
-{
-    wide(s[i]) + wide(s[i + 1]) * 256
-}
-
-fn put16(s: &mut [u8], i: usize, v: u32)
-    requires { i + 2 ≤ length s.old }
-    ensures { s.new ≡ put_at 2 s.old i v }
-{
-    s[i] = (v % 256) as u8;
-    s[i + 1] = (v / 256 % 256) as u8;
-}
-
-// The parts of record q.
-
-pub fn command(s: &[u8], q: usize) -> u32
+// A command that no node has counts as the placeholder's.
+pub fn kind(s: &[u8], q: usize) -> Kind
     requires { q * 32 + 32 ≤ length s.now }
-    ensures { (result ≡ command_in s.now q) × (result < 65536) }
+    ensures { result ≡ kind_of (command_in s.now q) }
 {
-    get16(s, q * 32)
+    Kind::of(get16(s, q * 32))
 }
 
 // The entry after this one; 0 for none.
@@ -141,21 +120,21 @@ pub fn put_offset(s: &mut [u8], q: usize, o: u32)
     put32(s, q * 32 + 20, o);
 }
 
-// A leaf's command, which says how strict it is, and its type.
-pub fn put_type(s: &mut [u8], q: usize, c: u32, ty: u32)
-    requires { (q * 32 + 32 ≤ length s.old) × (c < 65536) }
-    ensures { Set s.old s.new q (with_type c ty (cell s.old q)) }
+// A leaf's kind, which says how strict it is, and its type.
+pub fn put_type(s: &mut [u8], q: usize, kind: Kind, ty: u32)
+    requires { q * 32 + 32 ≤ length s.old }
+    ensures { Set s.old s.new q (with_type (command_of kind) ty (cell s.old q)) }
 {
-    put16(s, q * 32, c);
+    put16(s, q * 32, u32::from(kind.command()));
     put32(s, q * 32 + 16, ty);
 }
 
 // A node that is linked to nothing.
-pub fn put_record(s: &mut [u8], q: usize, c: u32, z: MaxSize, t: u32, o: u32)
-    requires { (q * 32 + 32 ≤ length s.old) × (c < 65536) }
-    ensures { Set s.old s.new q (alone c (size_of z) t o) }
+pub fn put_record(s: &mut [u8], q: usize, kind: Kind, z: MaxSize, t: u32, o: u32)
+    requires { q * 32 + 32 ≤ length s.old }
+    ensures { Set s.old s.new q (alone (command_of kind) (size_of z) t o) }
 {
-    put_type(s, q, c, t);
+    put_type(s, q, kind, t);
     put_next(s, q, 0);
     put_child(s, q, 0);
     put_nodes(s, q, 1);
@@ -168,13 +147,7 @@ pub fn copy_record(s: &mut [u8], to: usize, from: usize)
     requires { (to * 32 + 32 ≤ length s.old) × (from * 32 + 32 ≤ length s.old) }
     ensures { Set s.old s.new to (cell s.old from) }
 {
-    let x = to * 32;
-    let y = from * 32;
-    let mut i = 0;
-    while i < 24 {
-        s[x + i] = s[y + i];
-        i += 1;
-    }
+    s.copy_within(from * 32..from * 32 + 24, to * 32);
 }
 
 // The two spare words of record q: what it remembers, which no usage depends on.

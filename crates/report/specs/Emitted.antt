@@ -1,11 +1,13 @@
 -- Bytes appended to a report at a position that counts on past the buffer's end, where they are dropped.
 -- Assumes nothing.
 use Rattle.std.specs.Prelude.{◌≡◌, ℕ, ◌+◌, ◌%◌, ◌^◌, ◌<◌, List, length, slice_index}
+use Rattle.report.specs.declared.Report.{Report}
 
--- bs stands from `at` on as far as the buffer goes, and what stood before `at` still does. Positions wrap at 64 bits; as long as
--- none does, this is all that is to be said, and a report is never that long.
-pub record Emitted (rep : List ℕ) (at : ℕ) (bs rep' : List ℕ) (at' : ℕ) : Type 0 where
-  pub place : at' ≡ (at + length bs) % 2 ^ 64
-  pub size : length rep' ≡ length rep
-  pub before : at + length bs < 2 ^ 64 → (i : ℕ) → i < at → slice_index rep' i ≡ slice_index rep i
-  pub bytes : at + length bs < 2 ^ 64 → (i : ℕ) → i < length bs → at + i < length rep → slice_index rep' (at + i) ≡ slice_index bs i
+-- bs stands from r's position on as far as the buffer goes, and what stood before it still does. Positions wrap at 64 bits; as long
+-- as none does, this is all that is to be said, and a report is never that long. It is the same buffer.
+pub record Emitted (r : Report) (bs : List ℕ) (r' : Report) : Type 0 where
+  pub place : r'.at ≡ (r.at + length bs) % 2 ^ 64
+  pub size : length r'.buffer.now ≡ length r.buffer.now
+  pub before : r.at + length bs < 2 ^ 64 → (i : ℕ) → i < r.at → slice_index r'.buffer.now i ≡ slice_index r.buffer.now i
+  pub bytes : r.at + length bs < 2 ^ 64 → (i : ℕ) → i < length bs → r.at + i < length r.buffer.now → slice_index r'.buffer.now (r.at + i) ≡ slice_index bs i
+  pub same_buffer : r'.buffer.ghost_name ≡ r.buffer.ghost_name

@@ -1,7 +1,0 @@
--- `report::straddle` meets its contract. The two offsets stand behind the byte.
-use Rattle.report.proofs.Emitting.{emitted_after}
-use Rattle.report.proofs.straddle.Goals as goal
-
-pub returns : goal.returns
-returns c =
-    emitted_after (emitted_after c.byte-next.ensures c.word-last.ensures) c.word.ensures
