@@ -5,6 +5,7 @@ use mathlib.Core.Path.{◌≡◌, refl, sym, ◌∙◌}
 use mathlib.Core.List.{List, [], ◌∷◌}
 use native.Mathlib.Omega.{arith}
 use lib.ListN.{length, drop, length-drop}
+use Rattle.std.specs.Prelude.{Some, None}
 use Rattle.definitions.specs.Limits.{max32}
 use Rattle.definitions.specs.Usage.{Usage, nodes}
 use Rattle.definitions.specs.Stream.{Read, broken, read, ◌then◌, read_node}
@@ -16,7 +17,6 @@ use Rattle.stream.specs.Walk.{level, Sum, sum, owing, pending, Stands, entries_o
 use Rattle.stream.specs.Window.{levels, Held, Entered, Enters}
 use Rattle.stream.specs.declared.Maps.{Maps}
 use Rattle.stream.specs.declared.Next.TheVariants as nexts
-use Rattle.stream.specs.declared.Order.TheVariants as orders
 use Rattle.stream.proofs.Then.{never, then_reads}
 use Rattle.stream.proofs.Owing.{pending_start, owing_none, owing_short}
 use Rattle.stream.proofs.Stepping.{step_stop, step_element, step_entries}
@@ -59,7 +59,7 @@ module _ (s : List ℕ) (from : ℕ) where
     count_stop e = nowhere (walk.stands.same ∙ step_stop n t (levels m w) walk.stands.others (drop at s) e)
 
     module _ {node : Node} {end : ℕ} (part : PartAt s at node end) where
-      pub count_disorder : {owing' : ℕ} → Owes s (part_of node) end owed owing' → Enters s at (part_of node) end m w w orders.Broken
+      pub count_disorder : {owing' : ℕ} → Owes s (part_of node) end owed owing' → Enters s at (part_of node) end m w w None
           → read_node (drop from s) ≡ broken
       count_disorder owes enters = nowhere (enters _ owed _ n t owes.more walk.stands)
 
@@ -69,7 +69,7 @@ module _ (s : List ℕ) (from : ℕ) where
           ≡ owing (n + 1) (max t (own_bound (part_of node))) (level (entries_of (part_of node)) 0 ∷ levels m w) walk.stands.others (drop end s)
       behind other = walk.stands.same ∙ step_entries n t (levels m w) walk.stands.others (drop at s) (part_of node) part.reads other
 
-      pub count_short : Goes s (part_of node) end owed nexts.Broken → read_node (drop from s) ≡ broken
+      pub count_short : Goes s (part_of node) end owed None → read_node (drop from s) ≡ broken
       count_short goes =
           nowhere
           (behind goes.0
@@ -107,7 +107,7 @@ module _ (s : List ℕ) (from : ℕ) where
               few = omega (arith, walk.few);
             }
 
-        pub count_end : Goes s (part_of node) end owed nexts.End → NodeAt s from end (n + 1) t'
+        pub count_end : Goes s (part_of node) end owed (Some nexts.End) → NodeAt s from end (n + 1) t'
         count_end goes =
             let ls = level (entries_of (part_of node)) 0 ∷ levels m w in
             let none = owing_none (n + 1) (max t (own_bound (part_of node))) ls walk.stands.others (drop end s) (omega (arith, goes.1, walk.stands.owes)) in

@@ -1,17 +1,20 @@
--- What a command decides is decided by the same tests in the code and in the definitions.
+-- What a kind decides is decided by the same tests in the code and in the definitions.
 -- Assumes nothing.
-use Prim.Native.Nat.{ℕ, suc, ◌≤◌}
+use Prim.Native.Nat.{ℕ, suc}
 use mathlib.Core.Path.{◌≡◌, refl}
 use mathlib.Core.Bool.{Bool, true, false, not}
-use native.Mathlib.Omega.{arith}
-use native.Mathlib.Decide.{ℕ_discrete}
-use borrow.Author.Tests.{eq-eqb, ne_eqb}
+use mathlib.Core.Logic.{◌⊎◌, inl, inr}
 use lib.Dec.{eqb}
 use Rattle.definitions.specs.If.{when◌then◌else◌}
+use Rattle.definitions.specs.Usage.{Size}
 use Rattle.definitions.specs.Command.{Head}
 use Rattle.definitions.specs.Stream.{broken, read, ◌then◌}
+use Rattle.qptr.specs.declared.Kind.{Kind}
+use Rattle.qptr.specs.declared.Kind.TheVariants.{Unused, StrictlyTyped, DirectAccess, OffsetBase, DynOffsetBase}
+use Rattle.qptr.specs.declared.Node.{Node}
+use Rattle.qptr.specs.Values.{command_of, part_of}
 use Rattle.stream.specs.Head.{Known}
-use Rattle.stream.specs.Walk.{own_bound}
+use Rattle.stream.specs.Walk.{entries_of, own_bound}
 
 if_not : {A : Type 0} (t : Bool) (x y : A) → (when t then x else y) ≡ (when not t then y else x)
 unfolding when◌then◌else◌
@@ -22,17 +25,35 @@ pub known_array : (n : ℕ) → Known 0x04 n (not (eqb n 0))
 unfolding when◌then◌else◌
 known_array n z rest = if_not (eqb n 0) broken (read (record { command = 0x04; size = z; argument = n }) rest)
 
--- the two commands of leaves are next to each other
-pub typed : (h : Head) → 0x01 ≤ h.command → h.command ≤ 0x02 → own_bound h ≡ suc h.argument
-unfolding own_bound when◌then◌else◌
-typed h low high =
-    elim (ℕ_discrete h.command 0x01) [
-      | yes is ↦ rw (eq-eqb h.command 0x01 is)
-      | no not ↦ rw (ne_eqb h.command 0x01 not, eq-eqb h.command 0x02 (omega arith))
-    ]
+pub known_other : (k : Kind) (n : ℕ) → (k ≡ DynOffsetBase → ⊥) → Known (command_of k) n true
+unfolding when◌then◌else◌
+known_other Unused n other z rest = refl
+known_other StrictlyTyped n other z rest = refl
+known_other DirectAccess n other z rest = refl
+known_other OffsetBase n other z rest = refl
+known_other DynOffsetBase n other z rest = absurd (other refl)
 
-pub untyped : (h : Head) → (0x01 ≤ h.command → h.command ≤ 0x02 → ⊥) → own_bound h ≡ 0
+-- the own part of this kind
+abbrev own_part : Kind → Size → ℕ → Head
+own_part k z n = record { command = command_of k; size = z; argument = n }
+
+pub no_entries : (k : Kind) (z : Size) (n : ℕ) → (k ≡ OffsetBase → ⊥) → entries_of (own_part k z n) ≡ 0
+unfolding entries_of when◌then◌else◌
+no_entries Unused z n other = refl
+no_entries StrictlyTyped z n other = refl
+no_entries DirectAccess z n other = refl
+no_entries OffsetBase z n other = absurd (other refl)
+no_entries DynOffsetBase z n other = refl
+
+pub typed : (n : Node) → (n.kind ≡ StrictlyTyped) ⊎ (n.kind ≡ DirectAccess) → own_bound (part_of n) ≡ suc n.argument
 unfolding own_bound when◌then◌else◌
-untyped h out =
-    let not : (c : ℕ) → 0x01 ≤ c → c ≤ 0x02 → eqb h.command c ≡ false = λ c low high. ne_eqb h.command c λ e. out (omega arith) (omega arith) in
-    rw (not 0x01 (omega arith) (omega arith), not 0x02 (omega arith) (omega arith))
+typed n (inl e) = rw e
+typed n (inr e) = rw e
+
+pub untyped : (k : Kind) (z : Size) (n : ℕ) → (k ≡ StrictlyTyped → ⊥) → (k ≡ DirectAccess → ⊥) → own_bound (own_part k z n) ≡ 0
+unfolding own_bound when◌then◌else◌
+untyped Unused z n strict direct = refl
+untyped StrictlyTyped z n strict direct = absurd (strict refl)
+untyped DirectAccess z n strict direct = absurd (direct refl)
+untyped OffsetBase z n strict direct = refl
+untyped DynOffsetBase z n strict direct = refl

@@ -6,6 +6,7 @@ use mathlib.Core.Bool.{true, false}
 use mathlib.Core.List.{List, [], ◌∷◌}
 use native.Mathlib.Omega.{arith}
 use lib.ListN.{length, drop}
+use Rattle.std.specs.Prelude.{Option, Some, None}
 use Rattle.definitions.specs.Command.{Head}
 use Rattle.definitions.specs.Stream.{Read, read, number}
 use Rattle.numbers.specs.Words.{word}
@@ -14,8 +15,6 @@ use Rattle.stream.specs.Head.{head}
 use Rattle.stream.specs.Walk.{Level, level, total, Sum, owing, Stands, entries_of, own_bound, Settles}
 use Rattle.stream.specs.Window.{levels, Held, Pushed, Followed, Follows, Lost, Roomy, Entered, Enters}
 use Rattle.stream.specs.declared.Maps.{Maps}
-use Rattle.stream.specs.declared.Order.{Order}
-use Rattle.stream.specs.declared.Order.TheVariants as orders
 use Rattle.stream.proofs.Owing.{owing_is, owing_shut, owing_entry, pending_shut, level_next}
 use Rattle.stream.proofs.Keeping.{no_levels, none_left}
 use Rattle.stream.proofs.Stepping.{step_entries}
@@ -113,9 +112,9 @@ module _ (s : List ℕ) (at : ℕ) (h : Head) (end : ℕ) (part : head (drop at 
               (shut (suc m.last) (outside more (unshut (suc m.last) (rw (none_left m w held none) at stands)) e));
         }
 
-    pub enter_next : entries_of h ≡ 0 → (r : Order) → Follows m o w r → Enters s at h end m w w r
-    enter_next e (orders.Kept m') follows = record { held = follows.0; on = λ x owed owing' n t more stands. followed more stands e follows.1 }
-    enter_next e orders.Broken falls = λ x owed owing' n t more stands.
+    pub enter_next : entries_of h ≡ 0 → (r : Option Maps) → Follows m o w r → Enters s at h end m w w r
+    enter_next e (Some m') follows = record { held = follows.0; on = λ x owed owing' n t more stands. followed more stands e follows.1 }
+    enter_next e None falls = λ x owed owing' n t more stands.
         closed more stands e ∙ falls (n + 1) (max t (own_bound h)) stands.others (drop end s) (drop (end + 4) s) number_here
 
     pub enter_one : Held m w → entries_of h ≡ 1 → Entered s at h end m w w m
@@ -131,5 +130,5 @@ module _ (s : List ℕ) (at : ℕ) (h : Head) (end : ℕ) (part : head (drop at 
               rw (left, last, outer) (first more around (omega arith));
         }
 
-    pub enter_lost : Lost s at (levels m w) → Enters s at h end m w w orders.Broken
+    pub enter_lost : Lost s at (levels m w) → Enters s at h end m w w None
     enter_lost lost x owed owing' n t more stands = lost x owed n t stands

@@ -4,13 +4,13 @@ use Prim.Native.Nat.{ℕ, suc, max, ◌+◌, ◌-◌, ◌≤◌, ◌<◌}
 use mathlib.Core.Path.{◌≡◌, ap, ◌∙◌}
 use mathlib.Core.List.{List, ◌∷◌}
 use native.Mathlib.Omega.{arith}
+use Rattle.std.specs.Prelude.{Some, None}
 use Rattle.definitions.specs.Usage.{nodes}
 use Rattle.definitions.specs.Stream.{read_node}
 use Rattle.stream.specs.Found.{type_bound}
 use Rattle.stream.specs.Walk.{Level, level, owing, pending}
 use Rattle.stream.specs.Window.{kept, levels, Held, Popped, Followed, Follows}
 use Rattle.stream.specs.declared.Maps.{Maps}
-use Rattle.stream.specs.declared.Order.TheVariants as orders
 use Rattle.stream.proofs.Then.{then_same}
 use Rattle.stream.proofs.Owing.{pending_shut, level_falls, level_next}
 
@@ -24,7 +24,7 @@ module _ (m : Maps) (o : ℕ) (w : List ℕ) (some : 1 ≤ m.left) where
   one_more : m.left ≡ suc (m.left - 1)
   one_more = omega arith
 
-  pub follow_falls : o ≤ m.last → Follows m o w orders.Broken
+  pub follow_falls : o ≤ m.last → Follows m o w None
   follow_falls le n t k bs rest here =
       ap (λ l. owing n t (level l (suc m.last) ∷ kept w m.outer) k bs) one_more
       ∙ level_falls n t (m.left - 1) (suc m.last) (kept w m.outer) k bs here (omega arith)
@@ -39,13 +39,13 @@ module _ (m : Maps) (o : ℕ) (w : List ℕ) (some : 1 ≤ m.left) where
       }
 
   pub follow_next : m.last < o → (m.left ≡ 1 → ⊥) → (m' : Maps) → m'.left ≡ m.left - 1 → m'.last ≡ o → m'.outer ≡ m.outer → Held m w
-      → Follows m o w (orders.Kept m')
+      → Follows m o w (Some m')
   follow_next lt not m' left last outer held = (
     record { room = omega (arith, held.room); small = omega (arith, held.small); inner = λ none. absurd (not (omega arith)) },
     rw (left, last, outer) (fewer lt),
   )
 
-  pub follow_last : m.last < o → m.left ≡ 1 → (m' : Maps) → Popped m.outer w m' → Follows m o w (orders.Kept m')
+  pub follow_last : m.last < o → m.left ≡ 1 → (m' : Maps) → Popped m.outer w m' → Follows m o w (Some m')
   follow_last lt one m' pop = (
     pop.held,
     record {

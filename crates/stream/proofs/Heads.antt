@@ -14,7 +14,8 @@ use Rattle.definitions.specs.Stream.{Read, read, ◌then◌, number, read_size, 
 use Rattle.definitions.proofs.Choice.{decide}
 use Rattle.definitions.proofs.ReadFuel.{read_node_is}
 use Rattle.definitions.proofs.Reading.{Reads, stops, gives, reads_any, reads_map, reads_then, reads_is}
-use Rattle.qptr.specs.Values.{part_of, part_by}
+use Rattle.qptr.specs.Values.{command_of, part_of, part_by}
+use Rattle.qptr.specs.declared.Kind.{Kind}
 use Rattle.qptr.specs.declared.Node.{Node}
 use Rattle.qptr.proofs.Nodes.{part_is}
 use Rattle.stream.specs.Head.{own, head, below}
@@ -77,8 +78,8 @@ pub head_own : (bs : List ℕ) (h : Head) (rest : List ℕ) → head bs ≡ read
 head_own bs h rest e = reads_is (head_reads bs) e
 
 -- the node that is made of what was read has that own part
-pub node_reads : (bs : List ℕ) {h : Head} {rest : List ℕ} → head bs ≡ read h rest → (node : Node)
-    → part_of node ≡ part_by h.command h.size h.argument → head bs ≡ read (part_of node) rest
-node_reads bs {h} {rest} e node made =
-    let own = head_own bs h rest e in
-    e ∙ ap (λ (p : Head). read p rest) (sym (made ∙ part_is h.command h.size h.argument own.known own.bare))
+pub node_reads : (bs : List ℕ) (kind : Kind) {z : Size} {n : ℕ} {rest : List ℕ} → head bs ≡ read (record { command = command_of kind; size = z; argument = n }) rest
+    → (node : Node) → part_of node ≡ part_by kind z n → head bs ≡ read (part_of node) rest
+node_reads bs kind {z} {n} {rest} e node made =
+    let own = head_own bs _ rest e in
+    e ∙ ap (λ (p : Head). read p rest) (sym (made ∙ part_is kind z n (λ is. own.bare (ap command_of is))))

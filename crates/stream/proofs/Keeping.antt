@@ -5,17 +5,12 @@ use mathlib.Core.Path.{◌≡◌, refl, sym, ap, ◌∙◌}
 use mathlib.Core.List.{List, [], ◌∷◌}
 use native.Mathlib.Omega.{arith}
 use lib.ListN.{length}
-use Rattle.definitions.proofs.Written.{Bytes}
 use Rattle.numbers.specs.Words.{number_at, put_at, word, put}
 use Rattle.numbers.proofs.Numbers.{length_put, number_put, number_put_other}
 use Rattle.stream.specs.Walk.{level, total, owing}
 use Rattle.stream.specs.Window.{kept, levels, Held, Popped, Pushed}
 use Rattle.stream.specs.declared.Maps.{Maps}
 use Rattle.stream.proofs.Owing.{owing_shut}
-
-pub two_small : (w : List ℕ) (i : ℕ) → Bytes w → number_at 2 w i < 65536
-unfolding number_at
-two_small w i bytes = omega (arith, bytes i, bytes (i + 1))
 
 kept_same : (w w' : List ℕ) (d : ℕ)
     → ((i : ℕ) → i < d → (number_at 2 w' (i * 6) ≡ number_at 2 w (i * 6)) × (word w' (i * 6 + 2) ≡ word w (i * 6 + 2))) → kept w' d ≡ kept w d
@@ -90,11 +85,10 @@ pop_none d w m none left outer =
       count = rw (left, outer) (omega arith);
     }
 
-pub pop_top : (d : ℕ) (w : List ℕ) (m : Maps) → Bytes w → d * 6 ≤ length w → (d ≡ 0 → ⊥)
+pub pop_top : (d : ℕ) (w : List ℕ) (m : Maps) → number_at 2 w ((d - 1) * 6) < 65536 → d * 6 ≤ length w → (d ≡ 0 → ⊥)
     → m.left ≡ number_at 2 w ((d - 1) * 6) + 1 → m.last ≡ word w ((d - 1) * 6 + 2) → m.outer ≡ d - 1 → Popped d w m
-pop_top d w m bytes room some left last outer =
+pop_top d w m small room some left last outer =
     let is : d ≡ suc (d - 1) = omega arith in
-    let small = two_small w ((d - 1) * 6) bytes in
     let same : kept w d ≡ levels m w = ap (kept w) is ∙ kept_top w (d - 1) m (omega arith) last outer in
     record {
       held = record { room = omega arith; small = omega arith; inner = λ none. absurd (omega arith) };

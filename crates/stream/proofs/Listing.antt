@@ -5,12 +5,12 @@ use mathlib.Core.Path.{◌≡◌, refl, sym, ap, ◌∙◌}
 use mathlib.Core.List.{List}
 use native.Mathlib.Omega.{arith}
 use lib.ListN.{length, drop}
+use Rattle.std.specs.Prelude.{Option, Some, None}
 use Rattle.definitions.specs.Usage.{Usage, nodes, nodes_of}
 use Rattle.definitions.specs.Stream.{Read, broken, read, ◌then◌, read_node, read_nodes, whole}
 use Rattle.stream.specs.Found.{type_bound, bound_of, NodeAt, told}
 use Rattle.stream.specs.Walk.{Sum, sum}
 use Rattle.stream.specs.declared.Found.{Found}
-use Rattle.stream.specs.declared.Found.TheVariants as founds
 use Rattle.stream.proofs.Then.{then_same, then_then}
 use Rattle.stream.proofs.Owing.{sum_is}
 use Rattle.stream.proofs.Wholes.{whole_all, whole_not, told_made}
@@ -39,7 +39,7 @@ counted (sum n t) = n
 abbrev bounded : Sum → ℕ
 bounded (sum n t) = t
 
-abbrev tells : Read Sum → Found
+abbrev tells : Read Sum → Option Found
 tells r = told counted bounded (whole r)
 
 listed_told : (k : ℕ) (bs : List ℕ) → told nodes_of bound_of (whole (read_nodes k bs)) ≡ tells (listed 0 0 k bs)
@@ -56,7 +56,7 @@ module _ (s : List ℕ) (from count : ℕ) where
     pub within : at ≤ length s
     pub taken : n ≤ at
 
-  abbrev All : Found → Type 0
+  abbrev All : Option Found → Type 0
   All r = r ≡ told nodes_of bound_of (whole (read_nodes count (drop from s)))
 
   pub list_start : from ≤ length s → Listing from 0 0 count
@@ -66,19 +66,18 @@ module _ (s : List ℕ) (from count : ℕ) where
     as_told : {r : Read Sum} → listed n t left (drop at s) ≡ r → All (tells r)
     as_told e = sym (listed_told count (drop from s) ∙ ap tells (list.same ∙ e))
 
-    pub list_stop : 0 < left → read_node (drop at s) ≡ broken → All founds.Broken
+    pub list_stop : 0 < left → read_node (drop at s) ≡ broken → All None
     list_stop more e =
         let is : left ≡ suc (left - 1) = omega arith in
         as_told (ap (λ k. listed n t k (drop at s)) is ∙ listed_broken n t (left - 1) (drop at s) e)
 
-    pub list_on : 0 < left → {end m b t' : ℕ} → NodeAt s at end m b → t' ≡ max t b → Listing end (n + m) t' (left - 1)
-    list_on more node types =
-        let is : left ≡ suc (left - 1) = omega arith in
+    pub list_on : {left' : ℕ} → left ≡ suc left' → {end m b t' : ℕ} → NodeAt s at end m b → t' ≡ max t b → Listing end (n + m) t' left'
+    list_on {left'} is node types =
         record {
           same =
               list.same
               ∙ rw (node.counted, types, node.bounded)
-              (ap (λ k. listed n t k (drop at s)) is ∙ listed_node n t (left - 1) (drop at s) node.reads);
+              (ap (λ k. listed n t k (drop at s)) is ∙ listed_node n t left' (drop at s) node.reads);
           within = node.within;
           taken = omega (arith, list.taken, node.taken);
         }
@@ -86,8 +85,8 @@ module _ (s : List ℕ) (from count : ℕ) where
     done : left ≤ 0 → listed n t left (drop at s) ≡ read (sum n t) (drop at s)
     done h = let is : left ≡ 0 = omega arith in ap (λ k. listed n t k (drop at s)) is ∙ listed_none n t (drop at s)
 
-    pub list_end : left ≤ 0 → at ≡ length s → All (founds.Stream n t)
+    pub list_end : left ≤ 0 → at ≡ length s → All (Some (record { nodes = n; types = t }))
     list_end h e = rw (whole_all (sum n t) s at e) at (as_told (done h))
 
-    pub list_left : left ≤ 0 → (at ≡ length s → ⊥) → All founds.Broken
+    pub list_left : left ≤ 0 → (at ≡ length s → ⊥) → All None
     list_left h e = rw (whole_not (sum n t) s at list.within e) at (as_told (done h))

@@ -17,7 +17,8 @@ use Rattle.definitions.proofs.Choice.{either}
 use Rattle.definitions.proofs.Numbers.{number_whence}
 use Rattle.definitions.proofs.Written.{Bytes}
 use Rattle.definitions.proofs.Reading.{Reads, stops, gives, reads_any, reads_map, reads_then, reads_is, then_agree}
-use Rattle.qptr.specs.Values.{row_of, part_of, part_by}
+use Rattle.qptr.specs.Values.{row_of, command_of, part_of, part_by}
+use Rattle.qptr.specs.declared.Kind.{Kind}
 use Rattle.qptr.specs.declared.Command.{Command}
 use Rattle.qptr.specs.declared.Node.{Node}
 use Rattle.qptr.proofs.Nodes.{part_is}
@@ -90,10 +91,11 @@ module _ (s : List ℕ) (at : ℕ) (some : at < length s) where
       unfolding command_at number_at
       bare e = let none : row.argument ≡ 0 = ap (λ r. r.argument) is ∙ ap argument_width e in ap (λ w. number_at w s (at + (1 + row.size))) none
 
-      pub outline_at : (node : Node) → c ≤ 0x04 → part_of node ≡ part_by c dynamic argument → OutlineAt s at node (at + (1 + row.size + row.argument))
-      outline_at node known made =
-          let part = made ∙ part_is c dynamic argument known bare in
-          let command : node.command ≡ c = ap (λ (h : Head). h.command) part in
+      pub outline_at : (kind : Kind) → c ≡ command_of kind → (node : Node) → part_of node ≡ part_by kind dynamic argument
+          → OutlineAt s at node (at + (1 + row.size + row.argument))
+      outline_at kind known node made =
+          let part = made ∙ part_is kind dynamic argument (λ is. bare (known ∙ ap command_of is)) in
+          let command : command_of node.kind ≡ c = ap (λ (h : Head). h.command) part ∙ sym known in
           let argued : node.argument ≡ argument = ap (λ (h : Head). h.argument) part in
           let size : size_width c ≡ row.size = sym (ap (λ r. r.size) is) in
           record {
@@ -106,10 +108,10 @@ module _ (s : List ℕ) (at : ℕ) (some : at < length s) where
 
 -- where an own part is read, its command, its argument and its end are those of its outline
 pub outline_same : {s : List ℕ} {at : ℕ} {node : Node} {end : ℕ} → OutlineAt s at node end → (h : Head) (rest : List ℕ) → head (drop at s) ≡ read h rest
-    → (h.command ≡ node.command) × (h.argument ≡ node.argument) × (rest ≡ drop end s)
-outline_same {s} {at} {node} {end} part h rest e =
+    → (h.command ≡ command_of node.kind) × (h.argument ≡ node.argument) × (rest ≡ drop end s)
+outline_same {s} {at} {node} {end} part h _ e =
     reads_is
-    (reads_then (reads_any (read_size (size_width node.command) (drop (at + 1) s))) λ z left _. own_told node.command z node.argument (drop end s))
+    (reads_then (reads_any (read_size (size_width (command_of node.kind)) (drop (at + 1) s))) λ z left _. own_told (command_of node.kind) z node.argument (drop end s))
     (sym part.reads ∙ e)
 
 -- A map has fewer than 65,536 entries, since their count has two bytes.

@@ -7,6 +7,7 @@ use mathlib.Core.Bool.{true, false}
 use mathlib.Core.List.{List, [], ◌∷◌}
 use native.Mathlib.Omega.{arith}
 use lib.ListN.{length, drop, length-drop}
+use Rattle.std.specs.Prelude.{Some, None}
 use Rattle.definitions.specs.Usage.{Usage, nodes}
 use Rattle.definitions.specs.Stream.{Read, broken, read, number, read_node}
 use Rattle.numbers.specs.Words.{word}
@@ -14,7 +15,6 @@ use Rattle.numbers.proofs.Numbers.{number_at_lem}
 use Rattle.stream.specs.Found.{type_bound}
 use Rattle.stream.specs.Walk.{Level, level, total, Sum, owing, pending, Skips, Settles}
 use Rattle.stream.specs.Window.{Followed}
-use Rattle.stream.specs.declared.Skipped.TheVariants as skips
 use Rattle.stream.proofs.Then.{never, then_reads}
 use Rattle.stream.proofs.Owing.{owing_is, owing_entry, owing_short, pending_shut, pending_loose}
 
@@ -71,14 +71,14 @@ module _ (s : List ℕ) (from : ℕ) (ls₀ : List Level) where
             ∙ pending_is w.0 w.1 [] (drop at s) (sym (ap (λ ms. total ms + k) is ∙ omega arith))
             ∙ w.3
 
-    pub settle_lost : Skips s at skips.Broken → Settles s from ls₀ false
+    pub settle_lost : Skips s at None → Settles s from ls₀ false
     settle_lost lost n t k =
         unread n t k λ x rest e.
         let w = walk.on n t k x rest e in
         let a = pending_first w.0 w.1 [] (total ls + k) (drop at s) w.3 in
         absurd (lost a.0 a.1 a.2)
 
-    module _ {next : ℕ} (ends : Skips s at (skips.To next)) where
+    module _ {next : ℕ} (ends : Skips s at (Some next)) where
       -- behind the node
       behind : (n t k : ℕ) (x : Sum) (rest : List ℕ) → Loose n t k ≡ read x rest
           → (m : ℕ) × (b : ℕ) × (Ordered n t k ≡ owing m b ls k (drop next s)) × (owing m b [] (total ls + k) (drop next s) ≡ read x rest)

@@ -5,6 +5,7 @@ use mathlib.Core.Path.{◌≡◌, refl, sym, ◌∙◌}
 use mathlib.Core.List.{List, []}
 use native.Mathlib.Omega.{arith}
 use lib.ListN.{length, drop, length-drop}
+use Rattle.std.specs.Prelude.{Option, Some, None}
 use Rattle.definitions.specs.Usage.{Usage, nodes}
 use Rattle.definitions.specs.Command.{Head}
 use Rattle.definitions.specs.Stream.{Read, broken, read, read_node}
@@ -16,7 +17,6 @@ use Rattle.stream.specs.Found.{type_bound}
 use Rattle.stream.specs.Walk.{Sum, sum, owing, pending, entries_of, own_bound, Goes, Skips}
 use Rattle.stream.specs.declared.Next.{Next}
 use Rattle.stream.specs.declared.Next.TheVariants as nexts
-use Rattle.stream.specs.declared.Skipped.TheVariants as skips
 use Rattle.stream.proofs.Owing.{pending_start, owing_is, owing_entry, owing_loose, owing_short, owing_none}
 use Rattle.stream.proofs.Stepping.{step_stop, step_element, step_entries}
 use Rattle.stream.proofs.Parts.{outline_same}
@@ -51,18 +51,18 @@ module _ (s : List ℕ) (from : ℕ) where
   summed : {u : Usage} {rest : List ℕ} → read_node (drop from s) ≡ read u rest → pending 0 0 [] 0 (drop from s) ≡ read (sum (nodes u) (type_bound u)) rest
   summed e = rw (pending_start (drop from s), e)
 
-  nothing_leads : Leads s from broken → Skips s from skips.Broken
+  nothing_leads : Leads s from broken → Skips s from None
   nothing_leads leads u rest e = never (leads _ _ (summed e))
 
   -- what a turn of the walk comes to, behind an own part that ends at `end`
-  abbrev pub Skips_on : ℕ → ℕ → Next → Type 0
-  Skips_on end owed nexts.Element = Skipping s from end owed
-  Skips_on end owed (nexts.Entry owing) = Skipping s from (end + 4) owing
-  Skips_on end owed nexts.End = Skips s from (skips.To end)
-  Skips_on end owed nexts.Broken = Skips s from skips.Broken
+  abbrev pub Skips_on : ℕ → ℕ → Option Next → Type 0
+  Skips_on end owed (Some nexts.Element) = Skipping s from end owed
+  Skips_on end owed (Some (nexts.Entry owing)) = Skipping s from (end + 4) owing
+  Skips_on end owed (Some nexts.End) = Skips s from (Some end)
+  Skips_on end owed None = Skips s from None
 
   module _ {at owed : ℕ} (walk : Skipping s from at owed) where
-    pub skip_stop : head (drop at s) ≡ broken → Skips s from skips.Broken
+    pub skip_stop : head (drop at s) ≡ broken → Skips s from None
     skip_stop e = nothing_leads λ x rest p. sym (step_stop walk.n walk.t [] owed (drop at s) e) ∙ walk.leads x rest p
 
     module _ {node : Node} {end : ℕ} (part : OutlineAt s at node end) where
@@ -96,9 +96,9 @@ module _ (s : List ℕ) (from : ℕ) where
               ∙ owing_loose (walk.n + 1) (max walk.t (own_bound g)) _ owed bs
               (sym (step_entries walk.n walk.t [] owed (drop at s) g e (λ is. not (sym same.0 ∙ is))) ∙ walk.leads x rest p))
 
-      pub skip_turn : (r : Next) → Goes s h end owed r → Skips_on end owed r
-      skip_turn nexts.Element is = record { n = _; t = _; leads = element is; within = part.within; small = walk.small }
-      skip_turn (nexts.Entry owing) goes =
+      pub skip_turn : (r : Option Next) → Goes s h end owed r → Skips_on end owed r
+      skip_turn (Some nexts.Element) is = record { n = _; t = _; leads = element is; within = part.within; small = walk.small }
+      skip_turn (Some (nexts.Entry owing)) goes =
           record {
             n = walk.n + 1;
             t = bound;
@@ -108,12 +108,12 @@ module _ (s : List ℕ) (from : ℕ) where
             within = goes.long;
             small = goes.small;
           }
-      skip_turn nexts.End goes = (
+      skip_turn (Some nexts.End) goes = (
         part.within,
         λ u rest p.
             let both = sym (owing_none (walk.n + 1) bound [] (entries_of h + owed) (drop end s) (omega (arith, goes.1))) ∙ entries goes.0 _ _ (summed p) in cc,
       )
-      skip_turn nexts.Broken goes =
+      skip_turn None goes =
           nothing_leads λ x rest p.
           sym (owing_short (walk.n + 1) bound [] (entries_of h + owed) (drop end s) (rw length-drop (omega (arith, goes.1, part.within))))
           ∙ entries goes.0 x rest p

@@ -1,15 +1,13 @@
 -- What acceptance tells of a stream: its nodes, and a bound on its types.
 -- Assumes nothing.
-use Rattle.std.specs.Prelude.{ℕ, suc, max, ◌+◌, ◌≤◌, ◌≡◌, List, [], ◌∷◌, length, drop}
-use Rattle.std.proofs.Math.Option.{Option, none as nothing, some}
+use Rattle.std.specs.Prelude.{ℕ, suc, max, ◌+◌, ◌≤◌, ◌≡◌, List, [], ◌∷◌, Option, Some, None, length, drop}
+use Rattle.std.proofs.Math.Option.{Option as Maybe, none as nothing, some}
 use Rattle.definitions.specs.Limits.{max32}
 use Rattle.definitions.specs.Usage.{Usage, unused, leaf, map, array, Entries, none, entry, nodes, Top, opaque, buffer, memory, Nodes}
 use Rattle.definitions.specs.Command.{argument_width}
 use Rattle.definitions.specs.Stream.{read, broken, ◌then◌, number, read_node, whole}
 use Rattle.stream.specs.declared.Found.{Found}
-use Rattle.stream.specs.declared.Found.TheVariants as founds
 use Rattle.stream.specs.declared.Span.{Span}
-use Rattle.stream.specs.declared.Span.TheVariants as spans
 
 -- one more than the largest type, or 0 where there is none
 abbrev mutual
@@ -36,13 +34,13 @@ abbrev pub all_bound : Nodes → ℕ
 all_bound ns = bound_of (ns.first ∷ ns.others)
 
 -- an Opaque, behind its command
-abbrev pub opaque_of : List ℕ → Option Top
+abbrev pub opaque_of : List ℕ → Maybe Top
 opaque_of bs = whole (number (argument_width 0x08) bs then λ t rest. read (opaque t) rest)
 
 -- what is found where the definitions read x: something with so many nodes and such types, or nothing
-abbrev pub told : {A : Type 0} → (A → ℕ) → (A → ℕ) → Option A → Found
-told n b (some x) = founds.Stream (n x) (b x)
-told n b nothing = founds.Broken
+abbrev pub told : {A : Type 0} → (A → ℕ) → (A → ℕ) → Maybe A → Option Found
+told n b (some x) = Some (record { nodes = n x; types = b x })
+told n b nothing = None
 
 -- the node at a place of s
 pub record NodeAt (s : List ℕ) (at end n t : ℕ) : Type 0 where
@@ -55,6 +53,6 @@ pub record NodeAt (s : List ℕ) (at end n t : ℕ) : Type 0 where
   pub small : t ≤ suc max32
 
 -- the node at a place of s, or that there is none
-abbrev pub Spans : List ℕ → ℕ → Span → Type 0
-Spans s at (spans.Node end n t) = NodeAt s at end n t
-Spans s at spans.Broken = read_node (drop at s) ≡ broken
+abbrev pub Spans : List ℕ → ℕ → Option Span → Type 0
+Spans s at (Some span) = NodeAt s at span.end span.nodes span.types
+Spans s at None = read_node (drop at s) ≡ broken

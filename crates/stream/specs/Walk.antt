@@ -1,6 +1,6 @@
 -- The walk over the nodes of a stream, in their order: what is still to be read where it stands, and what that will have told.
 -- Assumes nothing.
-use Rattle.std.specs.Prelude.{ℕ, zero, suc, max, ◌+◌, ◌*◌, ◌≤◌, ◌<◌, ◌≡◌, Bool, true, false, List, [], ◌∷◌, eqb, length, drop}
+use Rattle.std.specs.Prelude.{ℕ, zero, suc, max, ◌+◌, ◌*◌, ◌≤◌, ◌<◌, ◌≡◌, Bool, true, false, List, [], ◌∷◌, Option, Some, None, eqb, length, drop}
 use Rattle.definitions.specs.If.{when◌then◌else◌}
 use Rattle.definitions.specs.Usage.{Usage, Entries, none, entry, nodes, nodes_in}
 use Rattle.definitions.specs.Command.{Head}
@@ -8,8 +8,6 @@ use Rattle.definitions.specs.Stream.{Read, broken, read, ◌then◌, number, rea
 use Rattle.stream.specs.Found.{type_bound, type_bound_in}
 use Rattle.stream.specs.declared.Next.{Next}
 use Rattle.stream.specs.declared.Next.TheVariants as nexts
-use Rattle.stream.specs.declared.Skipped.{Skipped}
-use Rattle.stream.specs.declared.Skipped.TheVariants as skips
 
 -- so many entries, with offsets in any order
 unfoldable pub each : ℕ → List ℕ → Read Entries
@@ -59,17 +57,17 @@ pub record Owes (s : List ℕ) (h : Head) (end owed owing : ℕ) : Type 0 where
   pub long : end + 4 ≤ length s
   pub small : owing ≤ length s
 
--- what comes behind an own part h that ends at `end`, where so many entries are owed
-abbrev pub Goes : List ℕ → Head → ℕ → ℕ → Next → Type 0
-Goes s h end owed nexts.Element = h.command ≡ 0x04
-Goes s h end owed (nexts.Entry owing) = Owes s h end owed owing
-Goes s h end owed nexts.End = (h.command ≡ 0x04 → ⊥) × (entries_of h + owed ≡ 0)
-Goes s h end owed nexts.Broken = (h.command ≡ 0x04 → ⊥) × (length s < end + 4 * (entries_of h + owed))
+-- what comes behind an own part h that ends at `end`, where so many entries are owed; or that the bytes are too few for these
+abbrev pub Goes : List ℕ → Head → ℕ → ℕ → Option Next → Type 0
+Goes s h end owed (Some nexts.Element) = h.command ≡ 0x04
+Goes s h end owed (Some (nexts.Entry owing)) = Owes s h end owed owing
+Goes s h end owed (Some nexts.End) = (h.command ≡ 0x04 → ⊥) × (entries_of h + owed ≡ 0)
+Goes s h end owed None = (h.command ≡ 0x04 → ⊥) × (length s < end + 4 * (entries_of h + owed))
 
 -- where the node at a place of s ends, if it is one
-abbrev pub Skips : List ℕ → ℕ → Skipped → Type 0
-Skips s at (skips.To end) = (end ≤ length s) × ((u : Usage) (rest : List ℕ) → read_node (drop at s) ≡ read u rest → rest ≡ drop end s)
-Skips s at skips.Broken = (u : Usage) (rest : List ℕ) → read_node (drop at s) ≡ read u rest → ⊥
+abbrev pub Skips : List ℕ → ℕ → Option ℕ → Type 0
+Skips s at (Some end) = (end ≤ length s) × ((u : Usage) (rest : List ℕ) → read_node (drop at s) ≡ read u rest → rest ≡ drop end s)
+Skips s at None = (u : Usage) (rest : List ℕ) → read_node (drop at s) ≡ read u rest → ⊥
 
 -- r says whether the entries left of open maps, behind the node at a place of s, are in order: then they may as well come in any
 abbrev pub Settles : List ℕ → ℕ → List Level → Bool → Type 0

@@ -1,13 +1,11 @@
 -- The open maps that a walk keeps: the innermost in two numbers, those around it in a window of bytes.
 -- Assumes nothing.
-use Rattle.std.specs.Prelude.{ℕ, zero, suc, max, ◌+◌, ◌*◌, ◌≤◌, ◌≡◌, List, [], ◌∷◌, length}
+use Rattle.std.specs.Prelude.{ℕ, zero, suc, max, ◌+◌, ◌*◌, ◌≤◌, ◌≡◌, List, [], ◌∷◌, Option, Some, None, length}
 use Rattle.definitions.specs.Command.{Head}
 use Rattle.definitions.specs.Stream.{Read, broken, read, number}
 use Rattle.numbers.specs.Words.{number_at, word}
 use Rattle.stream.specs.Walk.{Level, level, total, Sum, owing, pending, Stands, entries_of, own_bound}
 use Rattle.stream.specs.declared.Maps.{Maps}
-use Rattle.stream.specs.declared.Order.{Order}
-use Rattle.stream.specs.declared.Order.TheVariants as orders
 
 -- the lowest d levels of a window, the uppermost first: each has an entry left
 unfoldable pub kept : List ℕ → ℕ → List Level
@@ -42,9 +40,9 @@ pub record Followed (ls : List Level) (o : ℕ) (ls' : List Level) : Type 0 wher
   pub count : total ls ≡ suc (total ls')
 
 -- the maps behind that offset, or that it breaks their order
-abbrev pub Follows : Maps → ℕ → List ℕ → Order → Type 0
-Follows m o w (orders.Kept m') = Held m' w × Followed (levels m w) o (levels m' w)
-Follows m o w orders.Broken = (n t k : ℕ) (bs rest : List ℕ) → number 4 bs ≡ read o rest → owing n t (levels m w) k bs ≡ broken
+abbrev pub Follows : Maps → ℕ → List ℕ → Option Maps → Type 0
+Follows m o w (Some m') = Held m' w × Followed (levels m w) o (levels m' w)
+Follows m o w None = (n t k : ℕ) (bs rest : List ℕ) → number 4 bs ≡ read o rest → owing n t (levels m w) k bs ≡ broken
 
 -- where the walk stands among maps ls, nothing is to be read
 abbrev pub Lost : List ℕ → ℕ → List Level → Type 0
@@ -57,9 +55,9 @@ pub record Roomy (s : List ℕ) (at : ℕ) (m : Maps) (w w' : List ℕ) (m' : Ma
   pub on : (x : Read Sum) (owed n t : ℕ) → Stands x s at owed (levels m w) n t → Stands x s at owed (levels m' w') n t
 
 -- the same, or that the order of the open maps is broken
-abbrev pub Makes : List ℕ → ℕ → Maps → List ℕ → List ℕ → Order → Type 0
-Makes s at m w w' (orders.Kept m') = Roomy s at m w w' m'
-Makes s at m w w' orders.Broken = Lost s at (levels m w)
+abbrev pub Makes : List ℕ → ℕ → Maps → List ℕ → List ℕ → Option Maps → Type 0
+Makes s at m w w' (Some m') = Roomy s at m w w' m'
+Makes s at m w w' None = Lost s at (levels m w)
 
 -- the walk goes on from an own part h at `at` that ends at `end`, to the node of the next entry
 pub record Entered (s : List ℕ) (at : ℕ) (h : Head) (end : ℕ) (m : Maps) (w w' : List ℕ) (m' : Maps) : Type 0 where
@@ -68,7 +66,7 @@ pub record Entered (s : List ℕ) (at : ℕ) (h : Head) (end : ℕ) (m : Maps) (
       → Stands x s (end + 4) owing (levels m' w') (n + 1) (max t (own_bound h))
 
 -- the same, or that the order of the open maps is broken
-abbrev pub Enters : List ℕ → ℕ → Head → ℕ → Maps → List ℕ → List ℕ → Order → Type 0
-Enters s at h end m w w' (orders.Kept m') = Entered s at h end m w w' m'
-Enters s at h end m w w' orders.Broken = (x : Read Sum) (owed owing n t : ℕ) → entries_of h + owed ≡ suc owing
+abbrev pub Enters : List ℕ → ℕ → Head → ℕ → Maps → List ℕ → List ℕ → Option Maps → Type 0
+Enters s at h end m w w' (Some m') = Entered s at h end m w w' m'
+Enters s at h end m w w' None = (x : Read Sum) (owed owing n t : ℕ) → entries_of h + owed ≡ suc owing
     → Stands x s at owed (levels m w) n t → x ≡ broken

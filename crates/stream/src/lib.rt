@@ -2,72 +2,44 @@
 // any length, has room for some levels; what it holds before and afterwards does not matter.
 #![tactic(auto)]
 
-ghost use Rattle.std.specs.Prelude.{◌≡◌, ℕ, ◌+◌, ◌-◌, ◌*◌, ◌≤◌, ◌<◌, max, length, get_or, drop};
+ghost use Rattle.std.specs.Prelude.{◌≡◌, ℕ, ◌+◌, ◌-◌, ◌*◌, ◌≤◌, ◌<◌, length, get_or, drop};
 ghost use Rattle.definitions.specs.Limits.{max32};
 ghost use Rattle.definitions.specs.Usage.{nodes, nodes_of, top_nodes, all_nodes};
 ghost use Rattle.definitions.specs.Stream.{read_node, read_nodes, whole, top_of, memory_of, list_of};
-ghost use Rattle.qptr.specs.Values.{part_of};
+ghost use Rattle.qptr.specs.Values.{part_of, command_of};
 ghost use Rattle.numbers.specs.Words.{Width};
 ghost use Rattle.stream.specs.Head.{Known, SizeShows, Shows, Outlines, PartAt};
 ghost use Rattle.stream.specs.Found.{type_bound, bound_of, top_bound, all_bound, opaque_of, told, Spans};
 ghost use Rattle.stream.specs.Walk.{entries_of, own_bound, Goes, Skips, Settles};
 ghost use Rattle.stream.specs.Window.{levels, Held, Pushed, Popped, Follows, Makes, Enters};
 
-use numbers::{get32, number, put_number, put32};
-use qptr::{Command, MaxSize, Node};
+use numbers::{get16, get32, number, put16, put32};
+use qptr::{BUFFER, Command, Kind, LIST, MEMORY, MaxSize, Node, OPAQUE};
 
-const UNUSED: u8 = 0x00;
-
-const STRICTLY_TYPED: u8 = 0x01;
-
-const DIRECT_ACCESS: u8 = 0x02;
-
-const MAP: u8 = 0x03;
-
-const ARRAY: u8 = 0x04;
-
-const OPAQUE: u8 = 0x08;
-
-const BUFFER: u8 = 0x09;
-
-const MEMORY: u8 = 0x0A;
-
-const LIST: u8 = 0x0B;
-
-// The bytes of a level in a window: the entries left of a map but one, in two, and its last offset.
-const LEVEL: usize = 6;
-
-// What acceptance tells: the nodes of a stream, and one more than its largest type (0 for no type); or that the bytes are none.
+// What acceptance tells of a stream: its nodes, and one more than its largest type (0 for no type).
 #[derive(Clone, Copy)]
-pub enum Found {
-    Stream { nodes: usize, types: u64 },
-    Broken,
+pub struct Found {
+    pub nodes: usize,
+    pub types: u64,
 }
 
 // The node at a place: where it ends, and what it tells.
 #[derive(Clone, Copy)]
-pub enum Span {
-    Node {
-        end: usize,
-        nodes: usize,
-        types: u64,
-    },
-    Broken,
+pub struct Span {
+    pub end: usize,
+    pub nodes: usize,
+    pub types: u64,
 }
 
 // A node's own part at a place, and where that ends.
 #[derive(Clone, Copy)]
-pub enum HeaderAt {
-    Header { node: Node, end: usize },
-    Broken,
+pub struct HeaderAt {
+    pub node: Node,
+    pub end: usize,
 }
 
-// The size at a place.
-#[derive(Clone, Copy)]
-enum SizeAt {
-    Size(MaxSize),
-    Broken,
-}
+// The bytes of a level in a window: the entries left of a map but one, in two, and its last offset.
+const LEVEL: usize = 6;
 
 // How a walk over nodes goes on behind an own part: at an array's element; at an entry, with so many owed behind that one; or it has
 // come to its end.
@@ -76,7 +48,168 @@ enum Next {
     Element,
     Entry(usize),
     End,
-    Broken,
+}
+
+// The size in the `width` bytes from `at` on: flag 1 and a number, or flag 0 and the number 0. In no bytes there is none.
+fn size(s: &[u8], at: usize, width: usize) -> Option<MaxSize>
+    requires { Width (width - 1) × (at + width ≤ length s.now) }
+    ensures { SizeShows width s.now at result }
+{
+    if width == 0 {
+        return None;
+    }
+    let flag = s[at];
+    let n = number(s, at + 1, width - 1);
+    match flag {
+        1 => Some(MaxSize::Fixed(n)),
+        0 if n == 0 => Some(MaxSize::Dynamic),
+        _ => None,
+    }
+}
+
+// The own part with this command at `at`, but for its size: the size told is none, and the stride is not looked at.
+fn outlined(s: &[u8], at: usize, kind: Kind) -> Option<HeaderAt>
+    requires { (at < length s.now) × (get_or s.now at 0 ≡ command_of kind) }
+    ensures { Outlines s.now at result }
+{
+    let row = Command::of(kind.command());
+    let before = 1 + row.size;
+    let width = before + row.argument;
+    if s.len() - at < width {
+        return None;
+    }
+    let argument = number(s, at + before, row.argument);
+    Some(HeaderAt {
+        node: Node::of(kind, MaxSize::Dynamic, argument),
+        end: at + width,
+    })
+}
+
+// The own part at `at`, but for its size, which only says whether there is one. `skip` needs no more, because it answers only for what
+// is a node, and it should not do more, because it may pass a node many times. Each command has an arm of its own, where its widths are
+// constants, so that the processor foresees the next place and does not wait for this command and the table. Of four
+// arms side by side a compiler makes a table of jumps, which not every processor foresees: there are at most three.
+fn outline(s: &[u8], at: usize) -> Option<HeaderAt>
+    requires { at ≤ length s.now }
+    ensures { Outlines s.now at result }
+{
+    if s.len() == at {
+        return None;
+    }
+    let command = s[at];
+    if command < 0x03 {
+        return match command {
+            0x00 => outlined(s, at, Kind::Unused),
+            0x01 => outlined(s, at, Kind::StrictlyTyped),
+            0x02 => outlined(s, at, Kind::DirectAccess),
+            _ => None,
+        };
+    }
+    match command {
+        0x03 => outlined(s, at, Kind::OffsetBase),
+        0x04 => outlined(s, at, Kind::DynOffsetBase),
+        _ => None,
+    }
+}
+
+// Whether a node of this kind may have such an argument: a stride is not 0.
+fn known(kind: Kind, argument: u32) -> bool
+    ensures { Known (command_of kind) argument result }
+{
+    match kind {
+        Kind::DynOffsetBase => argument != 0,
+        _ => true,
+    }
+}
+
+// The own part at `at`, of its outline: the size is looked at too, and the stride. With `outline` it is compiled into each walk.
+fn sized(s: &[u8], at: usize, outline: Option<HeaderAt>) -> Option<HeaderAt>
+    requires { Outlines s.now at outline }
+    ensures { Shows s.now at result }
+{
+    let HeaderAt { node, end } = outline?;
+    let kind = node.kind;
+    let argument = node.argument;
+    let size = size(s, at + 1, Command::of(kind.command()).size)?;
+    if !known(kind, argument) {
+        return None;
+    }
+    Some(HeaderAt {
+        node: Node::of(kind, size, argument),
+        end,
+    })
+}
+
+// The own part of the node at `at`: its kind, its size and its argument.
+pub fn header(s: &[u8], at: usize) -> Option<HeaderAt>
+    requires { at ≤ length s.now }
+    ensures { Shows s.now at result }
+{
+    sized(s, at, outline(s, at))
+}
+
+// The entries that a node opens.
+fn entries(node: Node) -> u32
+    ensures { result ≡ entries_of (part_of node) }
+{
+    let kind = node.kind;
+    match kind {
+        Kind::OffsetBase => node.argument,
+        _ => 0,
+    }
+}
+
+// One more than the type of a leaf.
+fn bound(node: Node) -> u64
+    ensures { (result ≡ own_bound (part_of node)) × (result ≤ max32 + 1) }
+{
+    let kind = node.kind;
+    match kind {
+        Kind::StrictlyTyped | Kind::DirectAccess => u64::from(node.argument) + 1,
+        _ => 0,
+    }
+}
+
+// The walk behind a node's own part. An array's element comes next. Otherwise only maps leave anything open behind a finished
+// node, so what comes next is an entry, with its offset in front. Each entry that is owed has four bytes at least, so `owed`
+// stays below the bytes that are left.
+fn past(s: &[u8], node: Node, end: usize, owed: usize) -> Option<Next>
+    requires { (end ≤ length s.now) × (owed ≤ length s.now) }
+    ensures { Goes s.now (part_of node) end owed result }
+{
+    if node.kind == Kind::DynOffsetBase {
+        return Some(Next::Element);
+    }
+    let owing = entries(node) as usize + owed;
+    if owing == 0 {
+        return Some(Next::End);
+    }
+    if (s.len() - end) / 4 < owing {
+        return None;
+    }
+    Some(Next::Entry(owing - 1))
+}
+
+// Where the node at `from` ends, if it is one. The order of offsets is not looked at, nor are sizes and strides.
+fn skip(s: &[u8], from: usize) -> Option<usize>
+    requires { from ≤ length s.now }
+    ensures { Skips s.now from result }
+{
+    let mut at = from;
+    let mut owed: usize = 0;
+    loop {
+        let HeaderAt { node, end } = outline(s, at)?;
+        match past(s, node, end, owed)? {
+            Next::Element => {
+                at = end;
+            }
+            Next::Entry(owing) => {
+                at = end + 4;
+                owed = owing;
+            }
+            Next::End => return Some(end),
+        }
+    }
 }
 
 // The maps around a place of which entries are left there, and whose order is still to be seen: how many are left of the innermost and
@@ -88,245 +221,62 @@ struct Maps {
     outer: usize,
 }
 
-// The maps behind an offset; or that an offset is not above the one before it in its map.
-#[derive(Clone, Copy)]
-enum Order {
-    Kept(Maps),
-    Broken,
-}
-
-// Where a node ends, if it is one.
-#[derive(Clone, Copy)]
-enum Skipped {
-    To(usize),
-    Broken,
-}
-
-// The size in the `width` bytes from `at` on: flag 1 and a number, or flag 0 and the number 0. In no bytes there is none.
-fn size(s: &[u8], at: usize, width: usize) -> SizeAt
-    requires { Width (width - 1) × (at + width ≤ length s.now) }
-    ensures { SizeShows width s.now at result }
-{
-    if width == 0 {
-        return SizeAt::Broken;
-    }
-    let flag = s[at];
-    let n = number(s, at + 1, width - 1);
-    match flag {
-        1 => SizeAt::Size(MaxSize::Fixed(n)),
-        0 => {
-            if n == 0 {
-                SizeAt::Size(MaxSize::Dynamic)
-            } else {
-                SizeAt::Broken
-            }
-        }
-        _ => SizeAt::Broken,
-    }
-}
-
-// Whether a node has such a command and argument: commands go up to 04, whose stride is not 0.
-fn known(command: u8, argument: u32) -> bool
-    ensures { Known command argument result }
-{
-    if ARRAY < command {
-        return false;
-    }
-    if command != ARRAY {
-        return true;
-    }
-    argument != 0
-}
-
-// The own part with this command at `at`, but for its size: the size told is none, and the stride is not looked at.
-fn outlined(s: &[u8], at: usize, command: u8) -> HeaderAt
-    requires { (at < length s.now) × (get_or s.now at 0 ≡ command) × (command ≤ 0x04) }
-    ensures { Outlines s.now at result }
-{
-    let row = Command::of(command);
-    let before = 1 + row.size as usize;
-    let width = before + row.argument as usize;
-    if s.len() - at < width {
-        return HeaderAt::Broken;
-    }
-    let argument = number(s, at + before, row.argument as usize);
-    HeaderAt::Header {
-        node: Node::of(command, MaxSize::Dynamic, argument),
-        end: at + width,
-    }
-}
-
-// The own part at `at`, but for its size, which only says whether there is one. `skip` needs no more, because it answers only for what
-// is a node, and it should not do more, because it may pass a node many times. Each command has an arm of its own, where its widths are
-// constants, so that the processor foresees the next place and does not wait for this command and the table.
-fn outline(s: &[u8], at: usize) -> HeaderAt
-    requires { at ≤ length s.now }
-    ensures { Outlines s.now at result }
-{
-    if s.len() == at {
-        return HeaderAt::Broken;
-    }
-    let command = s[at];
-    match command {
-        UNUSED => outlined(s, at, UNUSED),
-        STRICTLY_TYPED => outlined(s, at, STRICTLY_TYPED),
-        DIRECT_ACCESS => outlined(s, at, DIRECT_ACCESS),
-        MAP => outlined(s, at, MAP),
-        ARRAY => outlined(s, at, ARRAY),
-        _ => HeaderAt::Broken,
-    }
-}
-
-// The own part at `at`, of its outline: the size is looked at too, and the stride. With `outline` it is compiled into each walk.
-fn sized(s: &[u8], at: usize, outline: HeaderAt) -> HeaderAt
-    requires { Outlines s.now at outline }
-    ensures { Shows s.now at result }
-{
-    let HeaderAt::Header { node, end } = outline else {
-        return HeaderAt::Broken;
-    };
-    let command = node.command;
-    let argument = node.argument;
-    let SizeAt::Size(size) = size(s, at + 1, Command::of_node(command).size as usize) else {
-        return HeaderAt::Broken;
-    };
-    if !known(command, argument) {
-        return HeaderAt::Broken;
-    }
-    HeaderAt::Header {
-        node: Node::of(command, size, argument),
-        end,
-    }
-}
-
-// The own part of the node at `at`: its command, its size and its argument.
-pub fn header(s: &[u8], at: usize) -> HeaderAt
-    requires { at ≤ length s.now }
-    ensures { Shows s.now at result }
-{
-    sized(s, at, outline(s, at))
-}
-
-// The entries that a node opens.
-fn entries(node: Node) -> u32
-    ensures { result ≡ entries_of (part_of node) }
-{
-    if node.command == MAP {
-        node.argument
-    } else {
-        0
-    }
-}
-
-// One more than the type of a leaf.
-fn bound(node: Node) -> u64
-    ensures { (result ≡ own_bound (part_of node)) × (result ≤ max32 + 1) }
-{
-    let command = node.command;
-    match command {
-        STRICTLY_TYPED | DIRECT_ACCESS => node.argument as u64 + 1,
-        _ => 0,
-    }
-}
-
-// The walk behind a node's own part. An array's element comes next. Otherwise only maps leave anything open behind a finished
-// node, so what comes next is an entry, with its offset in front. Each entry that is owed has four bytes at least, so `owed`
-// stays below the bytes that are left.
-fn past(s: &[u8], node: Node, end: usize, owed: usize) -> Next
-    requires { (end ≤ length s.now) × (owed ≤ length s.now) }
-    ensures { Goes s.now (part_of node) end owed result }
-{
-    if node.command == ARRAY {
-        return Next::Element;
-    }
-    let owing = entries(node) as usize + owed;
-    if owing == 0 {
-        return Next::End;
-    }
-    if (s.len() - end) / 4 < owing {
-        return Next::Broken;
-    }
-    Next::Entry(owing - 1)
-}
-
-// Where the node at `from` ends, if it is one. The order of offsets is not looked at, nor are sizes and strides.
-fn skip(s: &[u8], from: usize) -> Skipped
-    requires { from ≤ length s.now }
-    ensures { Skips s.now from result }
-{
-    let mut at = from;
-    let mut owed: usize = 0;
-    loop {
-        let HeaderAt::Header { node, end } = outline(s, at) else {
-            return Skipped::Broken;
-        };
-        match past(s, node, end, owed) {
-            Next::Element => {
-                at = end;
-            }
-            Next::Entry(owing) => {
-                at = end + 4;
-                owed = owing;
-            }
-            Next::End => return Skipped::To(end),
-            Next::Broken => return Skipped::Broken,
-        }
-    }
-}
-
-// The innermost map goes into the window, and another may take its place.
-fn push(maps: Maps, window: &mut [u8]) -> Maps
-    requires { (maps.outer * 6 + 6 ≤ length window.old) × (1 ≤ maps.left) × (maps.left ≤ 65536) }
-    ensures { Pushed maps window.old window.new result }
-{
-    let at = maps.outer * LEVEL;
-    put_number(window, at, 2, maps.left - 1);
-    put32(window, at + 2, maps.last);
-    Maps {
+impl Maps {
+    const NONE: Maps = Maps {
         left: 0,
         last: 0,
-        outer: maps.outer + 1,
-    }
-}
+        outer: 0,
+    };
 
-// The map of the uppermost of so many levels becomes the innermost.
-fn pop(outer: usize, window: &[u8]) -> Maps
-    requires { outer * 6 ≤ length window.now }
-    ensures { Popped outer window.now result }
-{
-    if outer == 0 {
-        return Maps {
-            left: 0,
-            last: 0,
-            outer,
-        };
+    // The innermost map goes into the window, and another may take its place.
+    fn push(self, window: &mut [u8]) -> Maps
+        requires { (self.outer * 6 + 6 ≤ length window.old) × (1 ≤ self.left) × (self.left ≤ 65536) }
+        ensures { Pushed self window.old window.new result }
+    {
+        let at = self.outer * LEVEL;
+        put16(window, at, self.left - 1);
+        put32(window, at + 2, self.last);
+        Maps {
+            outer: self.outer + 1,
+            ..Maps::NONE
+        }
     }
-    let top = outer - 1;
-    let at = top * LEVEL;
-    Maps {
-        left: number(window, at, 2) + 1,
-        last: get32(window, at + 2),
-        outer: top,
-    }
-}
 
-// The maps behind the offset of the innermost one's next entry. A map goes with its last entry, so a nest whose deep entries come last
-// needs no window.
-fn follow(maps: Maps, offset: u32, window: &[u8]) -> Order
-    requires { Held maps window.now × (1 ≤ maps.left) }
-    ensures { Follows maps offset window.now result }
-{
-    if offset <= maps.last {
-        return Order::Broken;
+    // The map of the uppermost of so many levels becomes the innermost.
+    fn pop(outer: usize, window: &[u8]) -> Maps
+        requires { outer * 6 ≤ length window.now }
+        ensures { Popped outer window.now result }
+    {
+        if outer == 0 {
+            return Maps::NONE;
+        }
+        let top = outer - 1;
+        let at = top * LEVEL;
+        Maps {
+            left: get16(window, at) + 1,
+            last: get32(window, at + 2),
+            outer: top,
+        }
     }
-    if maps.left == 1 {
-        return Order::Kept(pop(maps.outer, window));
+
+    // The maps behind the offset of the innermost one's next entry, if that is above its last one. A map goes with its last entry, so a
+    // nest whose deep entries come last needs no window.
+    fn follow(self, offset: u32, window: &[u8]) -> Option<Maps>
+        requires { Held self window.now × (1 ≤ self.left) }
+        ensures { Follows self offset window.now result }
+    {
+        if offset <= self.last {
+            return None;
+        }
+        if self.left == 1 {
+            return Some(Maps::pop(self.outer, window));
+        }
+        Some(Maps {
+            left: self.left - 1,
+            last: offset,
+            ..self
+        })
     }
-    Order::Kept(Maps {
-        left: maps.left - 1,
-        last: offset,
-        outer: maps.outer,
-    })
 }
 
 // Whether the offsets of all these maps ascend, from the node at `from` on to the end of the outermost. What lies further in is stepped
@@ -338,13 +288,13 @@ fn settled(s: &[u8], from: usize, maps: Maps, window: &[u8]) -> bool
     let mut at = from;
     let mut around = maps;
     while 0 < around.left {
-        let Skipped::To(next) = skip(s, at) else {
+        let Some(next) = skip(s, at) else {
             return false;
         };
         if s.len() - next < 4 {
             return false;
         }
-        let Order::Kept(rest) = follow(around, get32(s, next), window) else {
+        let Some(rest) = around.follow(get32(s, next), window) else {
             return false;
         };
         at = next + 4;
@@ -355,205 +305,167 @@ fn settled(s: &[u8], from: usize, maps: Maps, window: &[u8]) -> bool
 
 // Room for one more map, which begins at `at`. Where the window is full, all maps that it has are looked at in one go, and none is kept
 // any more: so that happens once for as many maps as there are levels, and not for each map.
-fn room(s: &[u8], at: usize, maps: Maps, window: &mut [u8]) -> Order
+fn room(s: &[u8], at: usize, maps: Maps, window: &mut [u8]) -> Option<Maps>
     requires { Held maps window.old × (at ≤ length s.now) }
     ensures { Makes s.now at maps window.old window.new result }
 {
     if maps.left == 0 {
-        return Order::Kept(maps);
+        return Some(maps);
     }
     if LEVEL <= window.len() - maps.outer * LEVEL {
-        return Order::Kept(push(maps, window));
+        return Some(maps.push(window));
     }
     if settled(s, at, maps, window) {
-        return Order::Kept(Maps {
-            left: 0,
-            last: 0,
-            outer: 0,
-        });
+        return Some(Maps::NONE);
     }
-    Order::Broken
+    None
 }
 
 // The maps behind the offset at `end`, of the next entry behind the own part at `at`: the first of a map that this own part opens, else
 // the next of the innermost map. Of a map of one entry there is no order to see.
-fn entered(s: &[u8], at: usize, node: Node, end: usize, maps: Maps, window: &mut [u8]) -> Order
-    requires { PartAt s.now at node end × (node.command ≡ 0x04 → ⊥) × (end + 4 ≤ length s.now) × Held maps window.old }
+fn entered(
+    s: &[u8],
+    at: usize,
+    node: Node,
+    end: usize,
+    maps: Maps,
+    window: &mut [u8],
+) -> Option<Maps>
+    requires { PartAt s.now at node end × (command_of node.kind ≡ 0x04 → ⊥) × (end + 4 ≤ length s.now) × Held maps window.old }
     ensures { Enters s.now at (part_of node) end maps window.old window.new result }
 {
     let offset = get32(s, end);
     let count = entries(node);
     if count == 0 {
         if maps.left == 0 {
-            return Order::Kept(maps);
+            return Some(maps);
         }
-        return follow(maps, offset, window);
+        return maps.follow(offset, window);
     }
     if count == 1 {
-        return Order::Kept(maps);
+        return Some(maps);
     }
-    let Order::Kept(around) = room(s, at, maps, window) else {
-        return Order::Broken;
-    };
-    Order::Kept(Maps {
+    let around = room(s, at, maps, window)?;
+    Some(Maps {
         left: count - 1,
         last: offset,
-        outer: around.outer,
+        ..around
     })
 }
 
-// The larger of two.
-fn max(a: u64, b: u64) -> u64
-    ensures { result ≡ max a b }
-{
-    if a < b { b } else { a }
-}
-
 // The node at `from`, with every rule of acceptance.
-pub fn node(s: &[u8], from: usize, window: &mut [u8]) -> Span
+pub fn node(s: &[u8], from: usize, window: &mut [u8]) -> Option<Span>
     requires { from ≤ length s.now }
     ensures { Spans s.now from result }
 {
     let mut at = from;
     let mut owed: usize = 0;
-    let mut maps = Maps {
-        left: 0,
-        last: 0,
-        outer: 0,
-    };
+    let mut maps = Maps::NONE;
     let mut nodes: usize = 0;
     let mut types: u64 = 0;
     loop {
-        let HeaderAt::Header { node, end } = sized(s, at, outline(s, at)) else {
-            return Span::Broken;
-        };
+        let HeaderAt { node, end } = sized(s, at, outline(s, at))?;
         nodes += 1;
-        types = max(types, bound(node));
-        match past(s, node, end, owed) {
+        types = types.max(bound(node));
+        match past(s, node, end, owed)? {
             Next::Element => {
                 at = end;
             }
             Next::Entry(owing) => {
-                let Order::Kept(around) = entered(s, at, node, end, maps, window) else {
-                    return Span::Broken;
-                };
+                maps = entered(s, at, node, end, maps, window)?;
                 at = end + 4;
                 owed = owing;
-                maps = around;
             }
-            Next::End => return Span::Node { end, nodes, types },
-            Next::Broken => return Span::Broken,
+            Next::End => return Some(Span { end, nodes, types }),
         }
     }
 }
 
 // What the node from `at` on tells, with nothing left over.
-fn alone(s: &[u8], at: usize, window: &mut [u8]) -> Found
+fn alone(s: &[u8], at: usize, window: &mut [u8]) -> Option<Found>
     requires { at ≤ length s.now }
     ensures { result ≡ told nodes type_bound (whole (read_node (drop at s.now))) }
 {
-    let Span::Node { end, nodes, types } = node(s, at, window) else {
-        return Found::Broken;
-    };
+    let Span { end, nodes, types } = node(s, at, window)?;
     if end == s.len() {
-        Found::Stream { nodes, types }
+        Some(Found { nodes, types })
     } else {
-        Found::Broken
+        None
     }
 }
 
 // What an Opaque tells, of its type behind the command, with nothing left over.
-fn opaque(s: &[u8]) -> Found
+fn opaque(s: &[u8]) -> Option<Found>
     requires { 1 ≤ length s.now }
     ensures { result ≡ told top_nodes top_bound (opaque_of (drop 1 s.now)) }
 {
-    let width = Command::of(OPAQUE).argument as usize;
+    let width = Command::of(OPAQUE).argument;
     if s.len() != 1 + width {
-        return Found::Broken;
+        return None;
     }
     let ty = number(s, 1, width);
-    Found::Stream {
+    Some(Found {
         nodes: 0,
-        types: ty as u64 + 1,
-    }
+        types: u64::from(ty) + 1,
+    })
 }
 
 // `count` nodes from `from` on, with nothing left over.
-fn several(s: &[u8], from: usize, count: u32, window: &mut [u8]) -> Found
+fn several(s: &[u8], from: usize, count: u32, window: &mut [u8]) -> Option<Found>
     requires { from ≤ length s.now }
     ensures { result ≡ told nodes_of bound_of (whole (read_nodes count (drop from s.now))) }
 {
     let mut at = from;
     let mut nodes: usize = 0;
     let mut types: u64 = 0;
-    let mut left = count;
-    while 0 < left {
-        let Span::Node {
-            end,
-            nodes: more,
-            types: bound,
-        } = node(s, at, window)
-        else {
-            return Found::Broken;
-        };
-        at = end;
-        nodes += more;
-        types = max(types, bound);
-        left -= 1;
+    for _ in 0..count {
+        let span = node(s, at, window)?;
+        at = span.end;
+        nodes += span.nodes;
+        types = types.max(span.types);
     }
     if at == s.len() {
-        Found::Stream { nodes, types }
+        Some(Found { nodes, types })
     } else {
-        Found::Broken
+        None
     }
 }
 
 // A Memory: 0A and a node.
-pub fn memory(s: &[u8], window: &mut [u8]) -> Found
+pub fn memory(s: &[u8], window: &mut [u8]) -> Option<Found>
     ensures { result ≡ told nodes type_bound (memory_of s.now) }
 {
-    if s.len() == 0 {
-        return Found::Broken;
-    }
-    if s[0] == MEMORY {
-        alone(s, 1, window)
-    } else {
-        Found::Broken
+    match s {
+        [MEMORY, ..] => alone(s, 1, window),
+        _ => None,
     }
 }
 
 // A top: 08 and a type, or 09 or 0A and a node. Which of them it is, the first byte says.
-pub fn top(s: &[u8], window: &mut [u8]) -> Found
+pub fn top(s: &[u8], window: &mut [u8]) -> Option<Found>
     ensures { result ≡ told top_nodes top_bound (top_of s.now) }
 {
-    if s.len() == 0 {
-        return Found::Broken;
-    }
-    let command = s[0];
-    match command {
-        OPAQUE => opaque(s),
-        BUFFER | MEMORY => alone(s, 1, window),
-        _ => Found::Broken,
+    match s {
+        [OPAQUE, ..] => opaque(s),
+        [BUFFER | MEMORY, ..] => alone(s, 1, window),
+        _ => None,
     }
 }
 
 // A list: 0B, a count of at least 1, and so many nodes.
-pub fn list(s: &[u8], window: &mut [u8]) -> Found
+pub fn list(s: &[u8], window: &mut [u8]) -> Option<Found>
     ensures { result ≡ told all_nodes all_bound (list_of s.now) }
 {
-    if s.len() == 0 {
-        return Found::Broken;
-    }
-    if s[0] != LIST {
-        return Found::Broken;
-    }
-    let width = Command::of(LIST).argument as usize;
-    if s.len() - 1 < width {
-        return Found::Broken;
+    let [LIST, rest @ ..] = s else {
+        return None;
+    };
+    let width = Command::of(LIST).argument;
+    if rest.len() < width {
+        return None;
     }
     let count = number(s, 1, width);
     if count == 0 {
-        return Found::Broken;
+        return None;
     }
     several(s, 1 + width, count, window)
 }

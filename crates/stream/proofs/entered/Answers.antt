@@ -27,17 +27,17 @@ returns-then-count-eq1 c =
     enter_one a.s.now a.at (part_of a.node) a.end pre.0.reads pre.1 pre.2 c.get32-offset.ensures a.maps a.window.now pre.3
     (omega (arith, c.entries-count.ensures))
 
-pub returns-in_default : goal.returns-in_default
-returns-in_default c =
+pub returns-in_err-around : goal.returns-in_err-around
+returns-in_err-around c =
     let a = c.args in
     let pre = c.requires in
-    enter_lost a.s.now a.at (part_of a.node) a.end pre.0.reads pre.1 pre.2 c.get32-offset.ensures a.maps a.window.now
-    (rw c.in_default.is at c.room.ensures)
+    rw c.from_residual.ensures
+    (enter_lost a.s.now a.at (part_of a.node) a.end pre.0.reads pre.1 pre.2 c.get32-offset.ensures a.maps a.window.now c.in_err-around.ensures)
 
 pub returns : goal.returns
 returns c =
     let a = c.args in
     let pre = c.requires in
     enter_map a.s.now a.at (part_of a.node) a.end pre.0.reads pre.1 pre.2 c.get32-offset.ensures a.maps a.window.now
-    (rw c.in-Kept.is at c.room.ensures) (sym c.entries-count.ensures) (omega arith)
+    c.in_ok-around.ensures (sym c.entries-count.ensures) (omega arith)
     (omega (arith, c.entries-count.ensures, count_few a.s.now a.at (λ k. (c.type_inv.s k).fits) pre.0.reads)) _ refl refl refl

@@ -1,13 +1,12 @@
--- `entries` meets its contract: both choose by the same test.
-use borrow.Author.Tests.{eq-eqb, ne_eqb}
+-- `entries` meets its contract: only a map has any.
 use Rattle.definitions.specs.If.{when◌then◌else◌}
 use Rattle.stream.specs.Walk.{entries_of}
+use Rattle.stream.proofs.Deciding.{no_entries}
 use Rattle.stream.proofs.entries.Goals as goal
 
-pub returns-then-node-eq-MAP : goal.returns-then-node-eq-MAP
+pub returns-in-OffsetBase : goal.returns-in-OffsetBase
 unfolding entries_of when◌then◌else◌
-returns-then-node-eq-MAP c = rw (eq-eqb _ _ c.if-node-eq-MAP.true)
+returns-in-OffsetBase c = rw c.in-OffsetBase.is
 
-pub returns-else-node-eq-MAP : goal.returns-else-node-eq-MAP
-unfolding entries_of when◌then◌else◌
-returns-else-node-eq-MAP c = rw (ne_eqb _ _ c.if-node-eq-MAP.false)
+pub returns-in_default : goal.returns-in_default
+returns-in_default c = rw (no_entries c.args.node.kind _ c.args.node.argument c.in_default.not-OffsetBase)

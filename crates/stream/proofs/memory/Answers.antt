@@ -3,11 +3,11 @@ use native.Mathlib.Omega.{arith}
 use Rattle.stream.proofs.Firsts.{nothing_first, memory_node, memory_other}
 use Rattle.stream.proofs.memory.Goals as goal
 
-pub returns-then-s-eq0 : goal.returns-then-s-eq0
-returns-then-s-eq0 c = let s = c.args.s.now in rw (memory_other s (omega (arith, nothing_first s c.if-s-eq0.true)))
+pub returns-in-10 : goal.returns-in-10
+returns-in-10 c = rw (memory_node c.args.s.now (omega arith)) c.alone.ensures
 
-pub returns-then-s-eq-MEMORY : goal.returns-then-s-eq-MEMORY
-returns-then-s-eq-MEMORY c = rw (memory_node c.args.s.now c.if-s-eq-MEMORY.true) c.alone.ensures
+pub returns-in_default : goal.returns-in_default
+returns-in_default c = let s = c.args.s.now in rw (memory_other s (omega (arith, nothing_first s (omega arith))))
 
-pub returns-else-s-eq-MEMORY : goal.returns-else-s-eq-MEMORY
-returns-else-s-eq-MEMORY c = rw (memory_other c.args.s.now c.if-s-eq-MEMORY.false)
+pub returns-in_default-2 : goal.returns-in_default-2
+returns-in_default-2 c = rw (memory_other c.args.s.now (λ e. omega arith))

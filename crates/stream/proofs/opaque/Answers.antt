@@ -6,6 +6,9 @@ use Rattle.numbers.proofs.Widths.{argument_width_lem}
 use Rattle.stream.proofs.Wholes.{opaque_not, opaque_is}
 use Rattle.stream.proofs.opaque.Goals as goal
 
+pub overflow_add-width : goal.overflow_add-width
+overflow_add-width c = omega (arith, (argument_width_lem 0x08).small, ap (λ r. r.argument) c.of-width.ensures)
+
 pub returns-then-s-width : goal.returns-then-s-width
 returns-then-s-width c =
     let a = c.args in
@@ -18,4 +21,4 @@ pub returns : goal.returns
 returns c =
     let a = c.args in
     let width = ap (λ r. r.argument) c.of-width.ensures in
-    rw (opaque_is a.s.now _ width c.number-ty.result c.if-s-width.false c.number-ty.ensures, add-one)
+    rw (c.from.ensures, opaque_is a.s.now _ width c.number-ty.result c.if-s-width.false c.number-ty.ensures, add-one)

@@ -6,7 +6,7 @@ use Rattle.stream.proofs.outline.Goals as goal
 pub returns-then-s-at : goal.returns-then-s-at
 returns-then-s-at c = let a = c.args in head_none a.s.now a.at (omega arith)
 
-pub returns-in_default : goal.returns-in_default
-returns-in_default c =
+pub returns-in_default-command : goal.returns-in_default-command
+returns-in_default-command c =
     let a = c.args in
     head_high a.s.now a.at (omega arith) (omega arith)

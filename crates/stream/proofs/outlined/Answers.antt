@@ -4,13 +4,27 @@ use native.Mathlib.Omega.{arith}
 use lib.ListN.{get_or}
 use Rattle.definitions.specs.Command.{command_at}
 use Rattle.qptr.specs.Values.{row_of}
-use Rattle.numbers.proofs.Widths.{argument_width_lem}
+use Rattle.numbers.proofs.Widths.{argument_width_lem, size_width_lem}
 use Rattle.stream.proofs.Parts.{head_cut, outline_at}
 use Rattle.stream.proofs.outlined.Goals as goal
 
+pub overflow_add-before : goal.overflow_add-before
+overflow_add-before c = omega (arith, (size_width_lem c.command.result).small, ap (λ r. r.size) c.of-row.ensures)
+
+pub overflow_add-width : goal.overflow_add-width
+overflow_add-width c =
+    let row = c.of-row.ensures in
+    omega (
+      arith,
+      (size_width_lem c.command.result).small,
+      ap (λ r. r.size) row,
+      (argument_width_lem c.command.result).small,
+      ap (λ r. r.argument) row,
+    )
+
 pub returns-then-s-at : goal.returns-then-s-at
 returns-then-s-at c =
-    let row_is : (let a = c.args in row_of c.of-row.result ≡ command_at (get_or a.s.now a.at 0)) = rw c.requires.1 c.of-row.ensures in
+    let row_is : (let a = c.args in row_of c.of-row.result ≡ command_at (get_or a.s.now a.at 0)) = rw (c.requires.1, ← c.command.ensures) c.of-row.ensures in
     let a = c.args in
     head_cut a.s.now a.at (omega arith) c.of-row.result row_is (omega arith)
 
@@ -19,6 +33,7 @@ number-argument-requires c = (rw (ap (λ r. r.argument) c.of-row.ensures) (argum
 
 pub returns : goal.returns
 returns c =
-    let row_is : (let a = c.args in row_of c.of-row.result ≡ command_at (get_or a.s.now a.at 0)) = rw c.requires.1 c.of-row.ensures in
-    outline_at c.args.s.now c.args.at (omega arith) c.of-row.result row_is (omega arith) c.of.result
-    (omega arith) (rw (c.requires.1, ← c.number-argument.ensures) c.of.ensures)
+    let row_is : (let a = c.args in row_of c.of-row.result ≡ command_at (get_or a.s.now a.at 0)) = rw (c.requires.1, ← c.command.ensures) c.of-row.ensures in
+    let a = c.args in
+    outline_at a.s.now a.at (omega arith) c.of-row.result row_is (omega arith) a.kind c.requires.1 c.of.result
+    (rw (← c.number-argument.ensures) c.of.ensures)

@@ -1,9 +1,9 @@
 -- `settled` meets its contract: the loop keeps that what is owed in order is what is left of the open maps, if it reads in any order, and
 -- fewer entries are left at each turn.
 use native.Mathlib.Omega.{arith}
+use Rattle.std.specs.Prelude.{Some}
 use Rattle.stream.specs.Walk.{Skips}
 use Rattle.stream.specs.Window.{levels, Held, Followed}
-use Rattle.stream.specs.declared.Skipped.TheVariants as skips
 use Rattle.stream.proofs.Keeping.{none_left}
 use Rattle.stream.proofs.Settling.{settle_start, settle_lost, settle_short, settle_falls, settle_next, settle_end}
 use Rattle.stream.proofs.settled.Goals as goal
@@ -21,24 +21,24 @@ returns-in_default c =
 
 pub overflow_sub-s : goal.overflow_sub-s
 overflow_sub-s c =
-    let ends : Skips c.args.s.now c.loop-around.at (skips.To c.in-To.next) = rw c.in-To.is at c.skip.ensures in
+    let ends : Skips c.args.s.now c.loop-around.at (Some c.in-Some.next) = rw c.in-Some.is at c.skip.ensures in
     let here = ends in omega arith
 
 pub returns-then-s-next-lt4 : goal.returns-then-s-next-lt4
 returns-then-s-next-lt4 c =
-    let ends : Skips c.args.s.now c.loop-around.at (skips.To c.in-To.next) = rw c.in-To.is at c.skip.ensures in
+    let ends : Skips c.args.s.now c.loop-around.at (Some c.in-Some.next) = rw c.in-Some.is at c.skip.ensures in
     let a = c.args in
     settle_short a.s.now a.from (levels a.maps a.window.now) c.loop-around.invariant.1
     ends (omega arith) c.if-s-next-lt4.true
 
 pub get32-requires : goal.get32-requires
 get32-requires c =
-    let ends : Skips c.args.s.now c.loop-around.at (skips.To c.in-To.next) = rw c.in-To.is at c.skip.ensures in
+    let ends : Skips c.args.s.now c.loop-around.at (Some c.in-Some.next) = rw c.in-Some.is at c.skip.ensures in
     let here = ends in omega arith
 
 pub returns-in_default-follow : goal.returns-in_default-follow
 returns-in_default-follow c =
-    let ends : Skips c.args.s.now c.loop-around.at (skips.To c.in-To.next) = rw c.in-To.is at c.skip.ensures in
+    let ends : Skips c.args.s.now c.loop-around.at (Some c.in-Some.next) = rw c.in-Some.is at c.skip.ensures in
     let a = c.args in
     let here = ends in
     settle_falls a.s.now a.from (levels a.maps a.window.now) c.loop-around.invariant.1
@@ -46,22 +46,22 @@ returns-in_default-follow c =
 
 pub overflow_add-at : goal.overflow_add-at
 overflow_add-at c =
-    let ends : Skips c.args.s.now c.loop-around.at (skips.To c.in-To.next) = rw c.in-To.is at c.skip.ensures in
+    let ends : Skips c.args.s.now c.loop-around.at (Some c.in-Some.next) = rw c.in-Some.is at c.skip.ensures in
     let here = ends in omega arith
 
 pub loop-around-smaller : goal.loop-around-smaller
 loop-around-smaller c =
     let next : (let w = c.args.window.now in
-    let m = c.in-Kept.rest in
-    Held m w × Followed (levels c.loop-around.around w) c.get32.result (levels m w)) = rw c.in-Kept.is at c.follow.ensures in
+    let m = c.in-Some-follow.rest in
+    Held m w × Followed (levels c.loop-around.around w) c.get32.result (levels m w)) = rw c.in-Some-follow.is at c.follow.ensures in
     omega (arith, next.1.count)
 
 pub loop-around-preserved : goal.loop-around-preserved
 loop-around-preserved c =
-    let ends : Skips c.args.s.now c.loop-around.at (skips.To c.in-To.next) = rw c.in-To.is at c.skip.ensures in
+    let ends : Skips c.args.s.now c.loop-around.at (Some c.in-Some.next) = rw c.in-Some.is at c.skip.ensures in
     let next : (let w = c.args.window.now in
-    let m = c.in-Kept.rest in
-    Held m w × Followed (levels c.loop-around.around w) c.get32.result (levels m w)) = rw c.in-Kept.is at c.follow.ensures in
+    let m = c.in-Some-follow.rest in
+    Held m w × Followed (levels c.loop-around.around w) c.get32.result (levels m w)) = rw c.in-Some-follow.is at c.follow.ensures in
     let a = c.args in
     let here = ends in (
       next.0,

@@ -1,67 +1,57 @@
 -- `sized` meets its contract: the size says whether there is the own part of which the outline tells the rest.
 use mathlib.Core.Path.{◌≡◌, ap, ◌∙◌}
 use native.Mathlib.Omega.{arith}
-use lib.ListN.{drop}
 use Rattle.definitions.specs.If.{when◌then◌else◌}
-use Rattle.definitions.specs.Command.{Head, size_width}
-use Rattle.definitions.specs.Stream.{read, broken}
-use Rattle.qptr.specs.Values.{size_of}
+use Rattle.definitions.specs.Command.{size_width}
+use Rattle.qptr.specs.Values.{command_of}
 use Rattle.numbers.proofs.Widths.{size_width_lem}
-use Rattle.stream.specs.Head.{head, OutlineAt}
+use Rattle.stream.specs.Head.{OutlineAt}
 use Rattle.stream.proofs.Heads.{node_reads}
 use Rattle.stream.proofs.sized.Goals as goal
+use Rattle.stream.proofs.sized.Goals.{In_ok-node, After-of}
 
-pub returns-in_default : goal.returns-in_default
-returns-in_default c = rw c.in_default.is at c.requires
+-- the outline that is there
+outline_is : (c : In_ok-node) → OutlineAt c.args.s.now c.args.at c.in_ok-node.field-0.node c.in_ok-node.field-0.end
+outline_is c = rw (c.in_ok-node.was) at c.requires
+
+width_is : (c : After-of) → c.of.result.size ≡ size_width (command_of c.in_ok-node.field-0.node.kind)
+width_is c = ap (λ r. r.size) c.of.ensures ∙ ap size_width c.command.ensures
+
+pub returns-in_err-node : goal.returns-in_err-node
+returns-in_err-node c = rw c.from_residual.ensures (rw (c.in_err-node.was) at c.requires)
 
 pub overflow_add-at : goal.overflow_add-at
-overflow_add-at c =
-    let part : (let a = c.args in
-    OutlineAt a.s.now a.at c.in-Header.node c.in-Header.end) = rw c.in-Header.is at c.requires in
-    let here = part in omega arith
+overflow_add-at c = let here = outline_is (goal.at.overflow_add-at c).In_ok-node in omega arith
 
 pub size-requires : goal.size-requires
 size-requires c =
-    let part : (let a = c.args in
-    OutlineAt a.s.now a.at c.in-Header.node c.in-Header.end) = rw c.in-Header.is at c.requires in
-    let width : c.of_node.result.size ≡ size_width c.in-Header.node.command = ap (λ r. r.size) c.of_node.ensures in
-    let here = part in
+    let here = outline_is (goal.at.size-requires c).In_ok-node in
+    let width = width_is (goal.at.size-requires c).After-of in
     (rw width (size_width_lem _), omega (arith, width, here.taken, here.within))
 
-pub returns-in_default-size : goal.returns-in_default-size
-returns-in_default-size c =
-    let part : (let a = c.args in
-    OutlineAt a.s.now a.at c.in-Header.node c.in-Header.end) = rw c.in-Header.is at c.requires in
-    let width : c.of_node.result.size ≡ size_width c.in-Header.node.command = ap (λ r. r.size) c.of_node.ensures in
-    let none = rw c.in_default-size.is at c.size.ensures in
-    rw (part.reads, ← width, none)
+pub returns-in_err-size : goal.returns-in_err-size
+returns-in_err-size c =
+    let here = outline_is (goal.at.returns-in_err-size c).In_ok-node in
+    let width = width_is (goal.at.returns-in_err-size c).After-of in
+    rw c.from_residual-in_err-size.ensures (rw (here.reads, ← width, c.in_err-size.ensures))
 
 pub returns-then-not-known : goal.returns-then-not-known
 unfolding when◌then◌else◌
 returns-then-not-known c =
-    let part : (let a = c.args in
-    OutlineAt a.s.now a.at c.in-Header.node c.in-Header.end) = rw c.in-Header.is at c.requires in
-    let width : c.of_node.result.size ≡ size_width c.in-Header.node.command = ap (λ r. r.size) c.of_node.ensures in
-    let whole : (let a = c.args in
-    let own : Head = record { command = c.in-Header.node.command; size = size_of c.in-Size.size; argument = c.in-Header.node.argument } in
-    head (drop a.at a.s.now) ≡ (when c.known.result then read own (drop c.in-Header.end a.s.now) else broken)) = let sized = rw c.in-Size.is at c.size.ensures in
-    rw (part.reads, ← width, sized) (c.known.ensures _ _) in
-    whole ∙ rw c.if-not-known.true
+    let here = outline_is (goal.at.returns-then-not-known c).In_ok-node in
+    let width = width_is (goal.at.returns-then-not-known c).After-of in
+    rw (here.reads, ← width, c.in_ok-size.ensures) (c.known.ensures _ _ ∙ rw c.if-not-known.true)
 
 pub returns : goal.returns
 unfolding when◌then◌else◌
 returns c =
-    let part : (let a = c.args in
-    OutlineAt a.s.now a.at c.in-Header.node c.in-Header.end) = rw c.in-Header.is at c.requires in
-    let width : c.of_node.result.size ≡ size_width c.in-Header.node.command = ap (λ r. r.size) c.of_node.ensures in
-    let whole : (let a = c.args in
-    let own : Head = record { command = c.in-Header.node.command; size = size_of c.in-Size.size; argument = c.in-Header.node.argument } in
-    head (drop a.at a.s.now) ≡ (when c.known.result then read own (drop c.in-Header.end a.s.now) else broken)) = let sized = rw c.in-Size.is at c.size.ensures in
-    rw (part.reads, ← width, sized) (c.known.ensures _ _) in
-    let here = part in
-    let read = rw c.if-not-known.false at whole in
+    let here = outline_is (goal.at.returns c).In_ok-node in
+    let width = width_is (goal.at.returns c).After-of in
     record {
-      reads = node_reads _ read c.of.result c.of.ensures;
+      reads =
+          node_reads _ c.in_ok-node.field-0.node.kind
+          (rw (here.reads, ← width, c.in_ok-size.ensures) (c.known.ensures _ _ ∙ rw c.if-not-known.false))
+          c.of-2.result c.of-2.ensures;
       taken = omega (arith, here.taken);
       within = here.within;
     }

@@ -1,74 +1,46 @@
 -- `skip` meets its contract: the loop keeps that if the node at `from` reads, so does what is still to be read, and fewer bytes are left at each turn.
 use native.Mathlib.Omega.{arith}
 use borrow.Author.Rules.{rules}
-use Rattle.stream.specs.Head.{OutlineAt}
+use Rattle.std.specs.Prelude.{Some, None}
 use Rattle.stream.proofs.Skipping.{Skips_on, skip_start, skip_stop, skip_turn}
 use Rattle.stream.proofs.skip.Goals as goal
+use Rattle.stream.proofs.skip.Goals.{In_ok-node, In_ok-past}
+
+-- what the turn comes to
+turn : (c : In_ok-past) → Skips_on c.args.s.now c.args.from c.in_ok-node.field-0.end c.loop-node.owed (Some c.in_ok-past.field-0)
+turn c = skip_turn c.args.s.now c.args.from c.loop-node.invariant c.in_ok-node.ensures (Some c.in_ok-past.field-0) c.in_ok-past.ensures
 
 pub loop-node-init : goal.loop-node-init
 loop-node-init c = search (skip_start, rules)
 
-pub returns-in_default : goal.returns-in_default
-returns-in_default c =
-    let a = c.args in
-    skip_stop a.s.now a.from c.loop-node.invariant (rw c.in_default.is at c.outline.ensures)
+pub returns-in_err-node : goal.returns-in_err-node
+returns-in_err-node c = rw c.from_residual.ensures (skip_stop c.args.s.now c.args.from c.loop-node.invariant c.in_err-node.ensures)
 
 pub past-requires : goal.past-requires
-past-requires c =
-    let part : (OutlineAt c.args.s.now c.loop-node.at c.in-Header.node c.in-Header.end) = rw c.in-Header.is at c.outline.ensures in
-    let here = part in (omega arith, omega arith)
+past-requires c = let here = c.in_ok-node.ensures in (omega arith, omega arith)
+
+pub returns-in_err-past : goal.returns-in_err-past
+returns-in_err-past c =
+    rw c.from_residual-in_err-past.ensures
+    (skip_turn c.args.s.now c.args.from c.loop-node.invariant c.in_ok-node.ensures None c.in_err-past.ensures)
 
 pub loop-node-smaller-in-Element : goal.loop-node-smaller-in-Element
-loop-node-smaller-in-Element c =
-    let part : (OutlineAt c.args.s.now c.loop-node.at c.in-Header.node c.in-Header.end) = rw c.in-Header.is at c.outline.ensures in
-    let here = part in omega arith
+loop-node-smaller-in-Element c = let here = c.in_ok-node.ensures in omega arith
 
 pub loop-node-preserved-in-Element : goal.loop-node-preserved-in-Element
-loop-node-preserved-in-Element c =
-    let part : (OutlineAt c.args.s.now c.loop-node.at c.in-Header.node c.in-Header.end) = rw c.in-Header.is at c.outline.ensures in
-    let turn : (let a = c.args in
-    Skips_on a.s.now a.from c.in-Header.end c.loop-node.owed c.past.result) = let a = c.args in
-    skip_turn a.s.now a.from c.loop-node.invariant part c.past.result c.past.ensures in
-    rw c.in-Element.is at turn
+loop-node-preserved-in-Element c = rw c.in-Element.is at (turn (goal.at.loop-node-preserved-in-Element c).In_ok-past)
 
 pub overflow_add-at : goal.overflow_add-at
-overflow_add-at c =
-    let part : (OutlineAt c.args.s.now c.loop-node.at c.in-Header.node c.in-Header.end) = rw c.in-Header.is at c.outline.ensures in
-    let turn : (let a = c.args in
-    Skips_on a.s.now a.from c.in-Header.end c.loop-node.owed c.past.result) = let a = c.args in
-    skip_turn a.s.now a.from c.loop-node.invariant part c.past.result c.past.ensures in
-    let next = rw c.in-Entry.is at turn in omega (arith, next.within)
+overflow_add-at c = let next = rw c.in-Entry.is at (turn (goal.at.overflow_add-at c).In_ok-past) in omega (arith, next.within)
 
 pub loop-node-smaller : goal.loop-node-smaller
 loop-node-smaller c =
-    let part : (OutlineAt c.args.s.now c.loop-node.at c.in-Header.node c.in-Header.end) = rw c.in-Header.is at c.outline.ensures in
-    let turn : (let a = c.args in
-    Skips_on a.s.now a.from c.in-Header.end c.loop-node.owed c.past.result) = let a = c.args in
-    skip_turn a.s.now a.from c.loop-node.invariant part c.past.result c.past.ensures in
-    let here = part in
-    let next = rw c.in-Entry.is at turn in
+    let here = c.in_ok-node.ensures in
+    let next = rw c.in-Entry.is at (turn (goal.at.loop-node-smaller c).In_ok-past) in
     omega (arith, here.taken, next.within)
 
 pub loop-node-preserved : goal.loop-node-preserved
-loop-node-preserved c =
-    let part : (OutlineAt c.args.s.now c.loop-node.at c.in-Header.node c.in-Header.end) = rw c.in-Header.is at c.outline.ensures in
-    let turn : (let a = c.args in
-    Skips_on a.s.now a.from c.in-Header.end c.loop-node.owed c.past.result) = let a = c.args in
-    skip_turn a.s.now a.from c.loop-node.invariant part c.past.result c.past.ensures in
-    rw c.in-Entry.is at turn
+loop-node-preserved c = rw c.in-Entry.is at (turn (goal.at.loop-node-preserved c).In_ok-past)
 
 pub returns-in-End : goal.returns-in-End
-returns-in-End c =
-    let part : (OutlineAt c.args.s.now c.loop-node.at c.in-Header.node c.in-Header.end) = rw c.in-Header.is at c.outline.ensures in
-    let turn : (let a = c.args in
-    Skips_on a.s.now a.from c.in-Header.end c.loop-node.owed c.past.result) = let a = c.args in
-    skip_turn a.s.now a.from c.loop-node.invariant part c.past.result c.past.ensures in
-    rw c.in-End.is at turn
-
-pub returns-in-Broken : goal.returns-in-Broken
-returns-in-Broken c =
-    let part : (OutlineAt c.args.s.now c.loop-node.at c.in-Header.node c.in-Header.end) = rw c.in-Header.is at c.outline.ensures in
-    let turn : (let a = c.args in
-    Skips_on a.s.now a.from c.in-Header.end c.loop-node.owed c.past.result) = let a = c.args in
-    skip_turn a.s.now a.from c.loop-node.invariant part c.past.result c.past.ensures in
-    rw c.in-Broken.is at turn
+returns-in-End c = rw c.in-End.is at (turn (goal.at.returns-in-End c).In_ok-past)

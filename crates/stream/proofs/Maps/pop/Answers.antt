@@ -1,0 +1,14 @@
+-- `Maps::pop` meets its contract: what is read are the numbers of the uppermost level.
+use Prim.Native.Nat.{◌+◌}
+use mathlib.Core.Path.{refl, sym, ap}
+use native.Mathlib.Omega.{arith}
+use Rattle.stream.proofs.Keeping.{pop_none, pop_top}
+use Rattle.stream.proofs.Maps.pop.Goals as goal
+
+pub returns-then-outer-eq0 : goal.returns-then-outer-eq0
+returns-then-outer-eq0 c = pop_none _ _ _ c.if-outer-eq0.true refl (sym c.if-outer-eq0.true)
+
+pub returns : goal.returns
+returns c =
+    pop_top _ _ _ (omega (arith, c.get16.ensures.0, c.get16.ensures.1)) (omega arith) c.if-outer-eq0.false
+    (ap (λ n. n + 1) c.get16.ensures.0) c.get32.ensures refl
