@@ -4,85 +4,97 @@
 use Prim.Native.Nat.{ℕ, suc, ◌+◌, ◌*◌, ◌-◌, ◌≤◌, ◌<◌}
 use native.Mathlib.Omega.{arith}
 use native.Mathlib.Decide.{dec_lt}
-use mathlib.Core.Path.{◌≡◌, refl, sym, ◌∙◌}
-use mathlib.Core.Bool.{Bool, true, false, not}
+use mathlib.Core.Path.{◌≡◌, refl, ap, sym, ◌∙◌}
+use mathlib.Core.Bool.{Bool, true, false}
 use mathlib.Core.List.{List, [], ◌∷◌, ◌++◌}
 use mathlib.Core.Option.{none as nothing}
-use lib.ListN.{length, get_or, set, drop, length-append, length-set, get_or-append, drop_of_length-le}
-use lib.Seq.{take-append-le, take_at, get_or_at, get_or-set_same, get_or-set_other, drop-cons}
-use borrow.Author.Tests.{lt-ltb, le-ltb, not-true, not-false}
+use lib.ListN.{length, get_or, set, take, drop, length-append, length-set, length-take, get_or-append, drop_of_length-le}
+use lib.Seq.{take-take, take-append-le, take_at, get_or_at, get_or-take, length-take-le, drop-cons}
+use Rattle.std.proofs.lemmas.List.{take_more_set}
+use borrow.Author.Tests.{lt-ltb, le-ltb}
+use Rattle.std.specs.Prelude.{Some, None}
 use Rattle.definitions.specs.If.{when◌then◌else◌}
 use Rattle.definitions.specs.Stream.{broken, read}
-use Rattle.definitions.specs.Table.{Table, TypeLayout as Layout, failed, read_layout, read_records, read_table, admitted, table_of}
+use Rattle.definitions.specs.Table.{Table as Layouts, TypeLayout as Layout, failed, read_layout, read_records, read_table, admitted, table_of}
 use Rattle.numbers.proofs.Numbers.{number_at_lem, number_short}
 use Rattle.layout.specs.Bytes.{record_count}
-use Rattle.layout.specs.Values.{Whole, Ended, Ends}
-use Rattle.layout.specs.Places.{Places, Stand, Admitted, Room, Found, Accepted}
-use Rattle.layout.specs.declared.RecordEnd.{RecordEnd}
-use Rattle.layout.specs.declared.RecordEnd.TheVariants.{At, Broken}
-use Rattle.layout.proofs.Clash.{clash}
-
-pub whole_record : {s : List ℕ} {at end : ℕ} {e : RecordEnd} → Ends s at e → e ≡ At end → Whole s at
-whole_record {s} {at} {end} x y = let w : Ended s at end = rw y at x in record { layout = w.layout; rest = _; stands = w.stands }
+use Rattle.layout.specs.Values.{Ended}
+use Rattle.layout.specs.Places.{Places, Stand, Admitted, Room, Holds, Found, Accepted}
+use Rattle.layout.specs.declared.Table.{Table}
 
 -- One record more
 
-module _ (s : List ℕ) (t : Table) (places : List ℕ) (l : Layout) (at : ℕ) where
-  pub placed_more : {n : ℕ} → Stand s places n t → n < length places → (rest : List ℕ) → read_layout (drop at s) ≡ read l rest →
-      admitted t l ≡ true → Stand s (set places n at) (n + 1) (t ++ l ∷ [])
-  placed_more {n} st w rest e a = record { count = rw length-append (omega (arith, st.count)); placed = placed }
-    where
-      count : length t ≡ n
-      count = st.count
+-- the records ls stand in each table that holds the first n places
+abbrev pub Stands : List ℕ → List ℕ → ℕ → Layouts → Type 0
+Stands s places n ls = (t : Table) → Holds t s places n → Places t ls
 
-      room : {ty : ℕ} → ty < length places → ty < length (set places n at)
-      room h = rw (length-set places n at) h
+-- a table has a place for each of the first n records, where there are so many
+enough : {t : Table} {s : List ℕ} (places : List ℕ) (n : ℕ) → Holds t s places n → n ≤ length places → n ≤ length t.places.now
+enough {t} places n h r = let e = ap length h.first in omega (arith, length-take n t.places.now, length-take n places)
 
-      placed : Places s (t ++ l ∷ []) (set places n at)
-      placed ty h =
-          elim (dec_lt ty n) [
-            | yes u ↦
-                let p = st.placed ty (omega arith) in
-                let q : get_or (set places n at) ty 0 ≡ get_or places ty 0 = get_or-set_other places n ty at 0 (omega arith) in
-                let r : get_or (t ++ l ∷ []) ty failed ≡ get_or t ty failed = get_or-append t (l ∷ []) failed ty (omega arith) in
-                record {
-                  kept = room p.kept;
-                  rest = p.rest;
-                  stands = rw (q, r) p.stands;
-                  admits = rw (r, take-append-le ty t (l ∷ []) (omega arith)) p.admits;
-                }
-            | no u ↦
-                let z : ty ≡ n = omega (arith, simp length-append at h) in
-                let q : get_or (set places n at) ty 0 ≡ at = rw z (get_or-set_same places n at 0 w) in
-                let r : get_or (t ++ l ∷ []) ty failed ≡ l = get_or_at t l [] failed ty (omega arith) in
-                record {
-                  kept = room (omega arith);
-                  rest = rest;
-                  stands = rw (q, r) e;
-                  admits = rw (r, take_at t (l ∷ []) ty (omega arith)) a;
-                }
-          ]
+module _ {t : Table} {s : List ℕ} (places : List ℕ) (n at : ℕ) (h : Holds t s (set places n at) (n + 1)) (r : n < length places) where
+  first_is : take (n + 1) t.places.now ≡ take n places ++ at ∷ []
+  first_is = h.first ∙ take_more_set places n at r
 
--- What is told
+  fewer : Holds t s places n
+  fewer = record {
+    bytes = h.bytes;
+    first =
+        sym (take-take n (n + 1) t.places.now (omega arith)) ∙ ap (take n) first_is
+        ∙ take_at (take n places) (at ∷ []) n (length-take-le n places (omega arith));
+  }
 
-module _ {s places : List ℕ} where
-  pub refuses : table_of s ≡ nothing → {n : ℕ} → Accepted s (record { ok = false; count = n }) places
-  refuses e = record { refused = λ n. e; found = λ y. absurd (clash y refl) }
+  last_place : get_or t.places.now n 0 ≡ at
+  last_place =
+      sym (get_or-take (n + 1) t.places.now n 0 (omega arith)) ∙ ap (λ (x : List ℕ). get_or x n 0) first_is
+      ∙ get_or_at (take n places) at [] 0 n (length-take-le n places (omega arith))
 
-  pub accepts : {n : ℕ} → Found s places n → Accepted s (record { ok = true; count = n }) places
-  accepts f = record { refused = λ n. absurd (clash refl n); found = λ y. f }
+one_more : {s places : List ℕ} {n : ℕ} {ls : Layouts} (l : Layout) (at : ℕ) (rest : List ℕ) → length ls ≡ n → Stands s places n ls → n < length places →
+    read_layout (drop at s) ≡ read l rest → admitted ls l ≡ true → Stands s (set places n at) (n + 1) (ls ++ l ∷ [])
+one_more {s} {places} {n} {ls} l at rest c st r e a t h ty u =
+    elim (dec_lt ty n) [
+      | yes v ↦
+          let p = st t (fewer places n at h r) ty (omega arith) in
+          let q : get_or (ls ++ l ∷ []) ty failed ≡ get_or ls ty failed = get_or-append ls (l ∷ []) failed ty (omega arith) in
+          record {
+            kept = p.kept;
+            rest = p.rest;
+            stands = rw q p.stands;
+            admits = rw (q, take-append-le ty ls (l ∷ []) (omega arith)) p.admits;
+          }
+      | no v ↦
+          let z : ty ≡ n = omega (arith, simp length-append at u) in
+          let q : get_or (ls ++ l ∷ []) ty failed ≡ l = get_or_at ls l [] failed ty (omega arith) in
+          let room = enough (set places n at) (n + 1) h (omega (arith, length-set places n at)) in
+          record {
+            kept = omega arith;
+            rest = rest;
+            stands = rw (q, z, last_place places n at h r, h.bytes) e;
+            admits = rw (q, take_at ls (l ∷ []) ty (omega arith)) a;
+          }
+    ]
 
 -- What is left to be read behind n records
 
 pub record Reading (s places : List ℕ) (count at n : ℕ) : Type 0 where
-  pub table : Table
-  pub stand : Stand s places n table
+  pub layouts : Layouts
+  pub counted : length layouts ≡ n
+  pub stand : Stands s places n layouts
   pub within : n ≤ count
   pub limit : count ≤ 1024
   pub room : count ≤ length places
   pub inside : at ≤ length s
   pub near : at ≤ 2 + n * 523
-  pub is : read_table s ≡ read_records (count - n) table (drop at s)
+  pub is : read_table s ≡ read_records (count - n) layouts (drop at s)
+
+-- What is told
+
+module _ {s places : List ℕ} where
+  pub refuses : table_of s ≡ nothing → Accepted s None places
+  refuses e = record { refused = λ n. e; found = λ n y. cc }
+
+  pub accepts : {n : ℕ} → Found s places n → Accepted s (Some n) places
+  accepts f = record { refused = λ n. cc; found = λ n y. let z : n ≡ _ = cc in rw z f }
 
 refused : (s : List ℕ) → read_table s ≡ broken → table_of s ≡ nothing
 unfolding table_of
@@ -100,8 +112,9 @@ unfolding when◌then◌else◌
 first_record s places count w h e m =
     let z : count - 0 ≡ count = omega arith in
     record {
-      table = [];
-      stand = record { count = refl; placed = λ ty l. absurd (omega arith) };
+      layouts = [];
+      counted = refl;
+      stand = λ t x ty l. absurd (omega arith);
       within = omega arith;
       limit = m;
       room = omega (arith, w (omega arith));
@@ -111,39 +124,43 @@ first_record s places count w h e m =
     }
 
 module _ {s places : List ℕ} {count at n : ℕ} (h : Reading s places count at n) where
+  -- the table of the records so far
+  module _ {t : Table} (l : n < count) (b : t.bytes.now ≡ s) (p : t.places.now ≡ take n places) where
+    so_far : Stand t h.layouts
+    so_far =
+        let k = length-take-le n places (omega (arith, h.room)) in
+        let w : Holds t s places n = record { bytes = b; first = rw p (take-take n n places (omega arith)) } in
+        record { count = rw p (omega (arith, h.counted)); placed = h.stand t w }
+
   -- the next one is read, whatever it is
-  turn : n < count → read_table s ≡ read_records (suc (count - (n + 1))) h.table (drop at s)
-  turn l = let z : count - n ≡ suc (count - (n + 1)) = omega arith in rw (h.is, z)
+  module _ (l : n < count) where
+    turn : read_table s ≡ read_records (suc (count - (n + 1))) h.layouts (drop at s)
+    turn = let z : count - n ≡ suc (count - (n + 1)) = omega arith in rw (h.is, z)
 
-  module _ (l : n < count) {e : RecordEnd} (x : Ends s at e) where
-    pub no_record : e ≡ Broken → table_of s ≡ nothing
-    no_record y = let b : Ends s at Broken = rw y at x in refused s (rw (turn l, b))
+    pub no_record : read_layout (drop at s) ≡ broken → table_of s ≡ nothing
+    no_record b = refused s (rw (turn, b))
 
-    module _ {end : ℕ} {b : Bool} (y : e ≡ At end) (a : Admitted s places n at b) where
-      whole : Ended s at end
-      whole = rw y at x
+    module _ {end : ℕ} (w : Ended s at end) {t : Table} {b : Bool} (bs : t.bytes.now ≡ s) (p : t.places.now ≡ take n places) (a : Admitted t at b) where
+      judged : admitted h.layouts w.layout ≡ b
+      judged = sym (a.is h.layouts (so_far l bs p) w.layout (drop end s) (ap (λ (x : List ℕ). read_layout (drop at x)) bs ∙ w.stands))
 
-      judged : admitted h.table whole.layout ≡ b
-      judged = sym (a.is h.table h.stand whole.layout _ whole.stands)
-
-      pub not_admitted : not b ≡ true → table_of s ≡ nothing
+      pub not_admitted : b ≡ false → table_of s ≡ nothing
       unfolding when◌then◌else◌
-      not_admitted f = refused s (rw (turn l, whole.stands, judged ∙ not-true b f))
+      not_admitted f = refused s (rw (turn, w.stands, judged ∙ f))
 
-      pub next_record : not b ≡ false → Reading s (set places n at) count end (n + 1)
+      pub next_record : b ≡ true → Reading s (set places n at) count end (n + 1)
       unfolding when◌then◌else◌
-      next_record f =
-          let w = whole in
-          record {
-            table = h.table ++ w.layout ∷ [];
-            stand = placed_more s h.table places w.layout at h.stand (omega arith) _ w.stands (judged ∙ not-false b f);
-            within = omega arith;
-            limit = h.limit;
-            room = rw (length-set places n at) h.room;
-            inside = w.within;
-            near = omega arith;
-            is = rw (turn l, w.stands, judged ∙ not-false b f);
-          }
+      next_record f = record {
+        layouts = h.layouts ++ w.layout ∷ [];
+        counted = rw length-append (omega (arith, h.counted));
+        stand = one_more w.layout at _ h.counted h.stand (omega (arith, h.room)) w.stands (judged ∙ f);
+        within = omega arith;
+        limit = h.limit;
+        room = rw (length-set places n at) h.room;
+        inside = w.within;
+        near = omega arith;
+        is = rw (turn, w.stands, judged ∙ f);
+      }
 
   module _ (l : count ≤ n) where
     pub left_over : at < length s → table_of s ≡ nothing
@@ -154,4 +171,10 @@ module _ {s places : List ℕ} {count at n : ℕ} (h : Reading s places count at
     unfolding table_of
     found m =
         let z : count - n ≡ 0 = omega arith in
-        record { table = h.table; is = rw (h.is, z, drop_of_length-le s {i = at} m); stand = h.stand }
+        record {
+          layouts = h.layouts;
+          is = rw (h.is, z, drop_of_length-le s {i = at} m);
+          count = h.counted;
+          room = omega (arith, h.room);
+          placed = h.stand;
+        }

@@ -1,11 +1,11 @@
 -- The element at a range's start contains it, or none does: each test of the definitions is one of the code.
 -- Assumes nothing.
-use Prim.Native.Nat.{ℕ, zero, suc, ◌+◌, ◌*◌, ◌-◌, ◌/◌, ◌%◌, ◌≤◌, ◌<◌}
+use Prim.Native.Nat.{ℕ, zero, suc, ◌+◌, ◌*◌, ◌/◌, ◌%◌, ◌≤◌, ◌<◌}
 use native.Mathlib.Omega.{arith}
 use mathlib.Core.Path.{◌≡◌, refl}
 use mathlib.Core.Bool.{and-false}
-use mathlib.Core.List.{List}
-use mathlib.Core.Option.{none as nothing, some}
+use mathlib.Core.Option.{Option as Maybe, none as nothing, some}
+use Rattle.std.specs.Prelude.{Option, Some, None}
 use lib.Dec.{ltb, eqb}
 use borrow.Author.Tests.{lt-ltb, le-ltb, le-leb, lt-leb, eq-eqb, ne_eqb}
 use Rattle.definitions.specs.If.{when◌then◌else◌}
@@ -14,9 +14,8 @@ use Rattle.definitions.specs.Table.{Setting, fixed_size}
 use Rattle.definitions.specs.Containment.{at_length, element_size, in_element, in_elements}
 use Rattle.layout.specs.Places.{Placed, Says}
 use Rattle.layout.specs.Containing.{size_in, InElements}
-use Rattle.layout.specs.declared.ElementSize.{ElementSize}
-use Rattle.layout.specs.declared.ElementSize.TheVariants.{Bytes, Missing}
-use Rattle.layout.specs.declared.Containing.TheVariants.{In, Nothing}
+use Rattle.layout.specs.declared.Array.{Array}
+use Rattle.layout.specs.declared.Table.{Table}
 
 module _ (n len i : ℕ) where
   with_length : (len ≡ 0 → ⊥) → element_size n len i ≡ (when ltb i len then some n else when eqb i len then at_length else nothing)
@@ -33,7 +32,7 @@ module _ (n len i : ℕ) where
   unfolding when◌then◌else◌
   below_length h l = rw (with_length h, lt-ltb i len l)
 
-  pub at_length_lem : (len ≡ 0 → ⊥) → len ≤ i → i ≡ len → (r : ElementSize) → size_in r ≡ at_length → size_in r ≡ element_size n len i
+  pub at_length_lem : (len ≡ 0 → ⊥) → len ≤ i → i ≡ len → (r : Option ℕ) → size_in r ≡ at_length → size_in r ≡ element_size n len i
   unfolding when◌then◌else◌
   at_length_lem h l e r f = rw (with_length h, le-ltb i len l, eq-eqb i len e) f
 
@@ -41,30 +40,31 @@ module _ (n len i : ℕ) where
   unfolding when◌then◌else◌
   above_length h l e = rw (with_length h, le-ltb i len l, ne_eqb i len e)
 
-module _ (b places : List ℕ) (stride elem len s e n : ℕ) (r : ElementSize) (z : Says fixed_size b places elem n) (is : size_in r ≡ element_size n len (s / stride)) where
+module _ (t : Table) (a : Array) (s e n : ℕ) (z : Says fixed_size t a.elem n) where
   -- what contains the range, by the element's size
-  by_size : {v : ElementSize} → r ≡ v → (st : Setting) → Placed b st.table places elem →
-      in_elements st stride elem len s e ≡ in_element (record { type = elem; rest = s % stride }) (s / stride * stride) e (size_in v)
-  by_size y st p = rw (← z.is st.table p, ← is, y)
+  by_size : {v : Maybe ℕ} → v ≡ element_size n a.len (s / a.stride) → (st : Setting) → Placed t st.table a.elem →
+      in_elements st a.stride a.elem a.len s e ≡ in_element (record { type = a.elem; rest = s % a.stride }) (s / a.stride * a.stride) e v
+  by_size is st p = rw (← z.is st.table p, ← is)
 
-  pub no_element : r ≡ Missing → InElements b places stride elem len s e Nothing
-  no_element y = record { type = tt; is = by_size y }
-
-  module _ {m : ℕ} (y : r ≡ Bytes m) where
-    pub element_past_32_bits : max32 - s / stride * stride < m → InElements b places stride elem len s e Nothing
+  module _ {m : ℕ} (is : some m ≡ element_size n a.len (s / a.stride)) where
+    pub element_past_32_bits : (s / a.stride * a.stride + m < 4294967296 → ⊥) → InElements t a s e None
     unfolding when◌then◌else◌
     element_past_32_bits h = record {
       type = tt;
-      is = λ st p. rw (by_size y st p, lt-leb (s / stride * stride + m) max32 (omega arith), and-false);
+      is = λ st p. rw (by_size is st p, lt-leb (s / a.stride * a.stride + m) max32 (omega arith), and-false);
     }
 
-    pub ends_before : s / stride * stride + m < e → InElements b places stride elem len s e Nothing
-    unfolding when◌then◌else◌
-    ends_before h = record { type = tt; is = λ st p. rw (by_size y st p, lt-leb e (s / stride * stride + m) h) }
+    module _ {end : ℕ} (f : (s / a.stride * a.stride + m < 4294967296) × (end ≡ s / a.stride * a.stride + m)) where
+      pub ends_before : end < e → InElements t a s e None
+      unfolding when◌then◌else◌
+      ends_before h = record { type = tt; is = λ st p. rw (by_size is st p, lt-leb e (s / a.stride * a.stride + m) (omega arith)) }
 
-    pub in_element_lem : s / stride * stride + m ≤ max32 → e ≤ s / stride * stride + m → InElements b places stride elem len s e (In elem (s % stride) 1)
-    unfolding when◌then◌else◌
-    in_element_lem w h = record {
-      type = refl;
-      is = λ st p. (rw (by_size y st p, le-leb e (s / stride * stride + m) h, le-leb (s / stride * stride + m) max32 w), omega arith);
-    }
+      pub in_element_lem : e ≤ end → InElements t a s e (Some (record { ty = a.elem; rest = s % a.stride; next = 1 }))
+      unfolding when◌then◌else◌
+      in_element_lem h = record {
+        type = refl;
+        is = λ st p. (
+          rw (by_size is st p, le-leb e (s / a.stride * a.stride + m) (omega arith), le-leb (s / a.stride * a.stride + m) max32 (omega arith)),
+          omega arith,
+        );
+      }

@@ -9,76 +9,67 @@ use mathlib.Core.List.{List, ◌∷◌}
 use lib.Dec.{leb, eqb}
 use borrow.Author.Tests.{le-leb, lt-leb, eq-eqb, ne_eqb, not-true, not-false}
 use Rattle.definitions.specs.Limits.{max32}
-use Rattle.definitions.specs.Table.{Table, Field, layout_of, is_concrete, fixed_size, is_dynamic, is_empty, fields_admitted}
+use Rattle.definitions.specs.Table.{Table as Layouts, Field, layout_of, is_concrete, fixed_size, is_dynamic, is_empty, fields_admitted}
 use Rattle.numbers.specs.Words.{word}
 use Rattle.layout.specs.Bytes.{fields_at}
 use Rattle.layout.specs.Places.{Placed, Says, Stand, Earlier, FieldsAdmitted}
+use Rattle.layout.specs.declared.FieldList.{FieldList}
+use Rattle.layout.specs.declared.Table.{Table}
 use Rattle.layout.proofs.Fields.{fields_next}
 use Rattle.layout.proofs.Types.{concrete_below}
 
 -- the fields before i are admitted, and the last of them ends at `end`
-pub record Remaining (s places : List ℕ) (n at count end i : ℕ) : Type 0 where
-  pub within : i ≤ count
-  pub is : (t : Table) → Stand s places n t → fields_admitted t 0 (fields_at s at count) ≡ fields_admitted t end (fields_at s (at + i * 8) (count - i))
+pub record Remaining (t : Table) (fs : FieldList) (end i : ℕ) : Type 0 where
+  pub within : i ≤ fs.count
+  pub is : (ls : Layouts) → Stand t ls →
+      fields_admitted ls 0 (fields_at t.bytes.now fs.at fs.count) ≡ fields_admitted ls end (fields_at t.bytes.now (fs.at + i * 8) (fs.count - i))
 
-module _ {s places : List ℕ} {n at count : ℕ} where
-  pub none_yet : Remaining s places n at count 0 0
-  none_yet =
-      let a : at + 0 * 8 ≡ at = omega arith in
-      let b : count - 0 ≡ count = omega arith in
-      record { within = omega arith; is = λ t st. rw (a, b) }
-
-  pub all_admitted : {end i : ℕ} → Remaining s places n at count end i → count ≤ i → FieldsAdmitted s places n at count true
-  all_admitted {end} {i} h l = let z : count - i ≡ 0 = omega arith in record { is = λ t st. rw (h.is t st, z) }
-
-  module _ {end i : ℕ} (h : Remaining s places n at count end i) (l : i < count) (o ty : ℕ) (at-o : o ≡ word s (at + i * 8)) (at-ty : ty ≡ word s (at + i * 8 + 4)) where
+module _ {t : Table} {fs : FieldList} where
+  module _ {end i : ℕ} (h : Remaining t fs end i) (l : i < fs.count) (o ty : ℕ)
+      (at-o : o ≡ word t.bytes.now (fs.at + i * 8)) (at-ty : ty ≡ word t.bytes.now (fs.at + i * 8 + 4)) where
     abbrev others : List Field
-    others = fields_at s (at + (i + 1) * 8) (count - (i + 1))
+    others = fields_at t.bytes.now (fs.at + (i + 1) * 8) (fs.count - (i + 1))
 
-    split : fields_at s (at + i * 8) (count - i) ≡ record { offset = o; type = ty } ∷ others
-    split = rw (at-o, at-ty) (fields_next s at count i l)
+    split : fields_at t.bytes.now (fs.at + i * 8) (fs.count - i) ≡ record { offset = o; type = ty } ∷ others
+    split = rw (at-o, at-ty) (fields_next t.bytes.now fs.at fs.count i l)
 
-    chain : (t : Table) → Stand s places n t → fields_admitted t 0 (fields_at s at count) ≡
-        (let end' = o + fixed_size (layout_of t ty) in
-        is_concrete (layout_of t ty) && (leb end o && (leb end' max32 && ((not (is_dynamic (layout_of t ty)) || is_empty others) && fields_admitted t end' others))))
-    chain t st = h.is t st ∙ ap (fields_admitted t end) split
+    chain : (ls : Layouts) → Stand t ls → fields_admitted ls 0 (fields_at t.bytes.now fs.at fs.count) ≡
+        (let end' = o + fixed_size (layout_of ls ty) in
+        is_concrete (layout_of ls ty) && (leb end o && (leb end' max32 && ((not (is_dynamic (layout_of ls ty)) || is_empty others) && fields_admitted ls end' others))))
+    chain ls st = h.is ls st ∙ ap (fields_admitted ls end) split
 
     -- nothing comes behind it just if it is the last
-    alone : (t : Table) (p : ℕ) → eqb (i + 1) count ≡ (is_empty others && fields_admitted t p others)
-    alone t p =
-        elim (ℕ_discrete (i + 1) count) [
-          | yes e ↦ let z : count - (i + 1) ≡ 0 = omega arith in rw (z, eq-eqb (i + 1) count e)
-          | no e ↦ let z : count - (i + 1) ≡ suc (count - (i + 2)) = omega arith in rw (z, ne_eqb (i + 1) count e)
+    alone : (ls : Layouts) (p : ℕ) → eqb (i + 1) fs.count ≡ (is_empty others && fields_admitted ls p others)
+    alone ls p =
+        elim (ℕ_discrete (i + 1) fs.count) [
+          | yes e ↦ let z : fs.count - (i + 1) ≡ 0 = omega arith in rw (z, eq-eqb (i + 1) fs.count e)
+          | no e ↦ let z : fs.count - (i + 1) ≡ suc (fs.count - (i + 2)) = omega arith in rw (z, ne_eqb (i + 1) fs.count e)
         ]
 
-    pub no_component : {b : Bool} → Earlier s places n ty b → not b ≡ true → FieldsAdmitted s places n at count false
-    no_component {b} e f = record { is = λ t st. rw (chain t st, ← e.is t st, not-true b f) }
+    pub no_component : {b : Bool} → Earlier t ty b → not b ≡ true → FieldsAdmitted t fs false
+    no_component {b} e f = record { is = λ ls st. rw (chain ls st, ← e.is ls st, not-true b f) }
 
-    module _ {b : Bool} (e : Earlier s places n ty b) (f : not b ≡ false) where
-      pub too_early : o < end → FieldsAdmitted s places n at count false
-      too_early g = record { is = λ t st. rw (chain t st, ← e.is t st, not-false b f, lt-leb end o g) }
+    module _ {b : Bool} (e : Earlier t ty b) (f : not b ≡ false) where
+      pub too_early : o < end → FieldsAdmitted t fs false
+      too_early g = record { is = λ ls st. rw (chain ls st, ← e.is ls st, not-false b f, lt-leb end o g) }
 
       -- the type is one of the table's
-      placed : {t : Table} → Stand s places n t → Placed s t places ty
+      placed : {ls : Layouts} → Stand t ls → Placed t ls ty
       placed st = st.placed ty (concrete_below st e f)
 
-      module _ {size : ℕ} (g : end ≤ o) (z : Says fixed_size s places ty size) where
-        pub past_32_bits : max32 - o < size → FieldsAdmitted s places n at count false
+      module _ {size : ℕ} (g : end ≤ o) (z : Says fixed_size t ty size) where
+        pub past_32_bits : (o + size < 4294967296 → ⊥) → FieldsAdmitted t fs false
         past_32_bits k = record {
-          is = λ t st. rw (chain t st, ← e.is t st, not-false b f, le-leb end o g, ← z.is t (placed st), lt-leb (o + size) max32 (omega arith));
+          is = λ ls st. rw (chain ls st, ← e.is ls st, not-false b f, le-leb end o g, ← z.is ls (placed st), lt-leb (o + size) max32 (omega arith));
         }
 
-        module _ {d : Bool} (k : o + size ≤ max32) (v : Says is_dynamic s places ty d) where
-          pub last_field : d ≡ true → FieldsAdmitted s places n at count (eqb (i + 1) count)
-          last_field y = record {
-            is = λ t st.
-                rw (chain t st, ← e.is t st, not-false b f, le-leb end o g, ← z.is t (placed st), le-leb (o + size) max32 k, ← v.is t (placed st), y)
-                (alone t (o + size));
-          }
+        module _ {d : Bool} (k : o + size < 4294967296) (v : Says is_dynamic t ty d) where
+          -- the field keeps the rules, and what is left to be said depends on its type
+          kept : (ls : Layouts) → Stand t ls → fields_admitted ls 0 (fields_at t.bytes.now fs.at fs.count) ≡ ((not d || is_empty others) && fields_admitted ls (o + size) others)
+          kept ls st = rw (chain ls st, ← e.is ls st, not-false b f, le-leb end o g, ← z.is ls (placed st), le-leb (o + size) max32 (omega arith), ← v.is ls (placed st))
 
-          pub next_field : d ≡ false → Remaining s places n at count (o + size) (i + 1)
-          next_field y = record {
-            within = omega arith;
-            is = λ t st.
-                rw (chain t st, ← e.is t st, not-false b f, le-leb end o g, ← z.is t (placed st), le-leb (o + size) max32 k, ← v.is t (placed st), y);
-          }
+          pub last_field : d ≡ true → FieldsAdmitted t fs (eqb (i + 1) fs.count)
+          last_field y = record { is = λ ls st. rw (kept ls st, y) (alone ls (o + size)) }
+
+          pub next_field : {next : ℕ} → next ≡ o + size → d ≡ false → Remaining t fs next (i + 1)
+          next_field u y = record { within = omega arith; is = λ ls st. rw (u, kept ls st, y) }

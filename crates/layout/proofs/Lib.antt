@@ -1,11 +1,9 @@
-pub mod Clash
 pub mod Fields
 pub mod View
 pub mod Ends
 pub mod Layouts
 pub mod Types
 pub mod FieldRules
-pub mod Admission
 pub mod Acceptance
 pub mod Elements
 pub mod InFields

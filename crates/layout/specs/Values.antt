@@ -1,6 +1,6 @@
 -- What this crate's values stand for, over the bytes s of a table.
 -- Assumes nothing.
-use Rattle.std.specs.Prelude.{ℕ, ◌+◌, ◌*◌, ◌≤◌, ◌<◌, ◌≡◌, List, length, drop}
+use Rattle.std.specs.Prelude.{ℕ, ◌+◌, ◌*◌, ◌≤◌, ◌<◌, ◌≡◌, List, length, drop, Option, Some, None}
 use Rattle.definitions.specs.Stream.{broken, read}
 use Rattle.definitions.specs.Table.{Components as Parts, scalar, elements, fields, TypeLayout as Layout, concrete, handle, failed, read_layout}
 use Rattle.layout.specs.Bytes.{fields_at}
@@ -8,13 +8,11 @@ use Rattle.layout.specs.declared.Components.{Components}
 use Rattle.layout.specs.declared.Components.TheVariants.{Scalar, Elements, Fields}
 use Rattle.layout.specs.declared.TypeLayout.{TypeLayout}
 use Rattle.layout.specs.declared.TypeLayout.TheVariants.{Concrete, Handle, Failed}
-use Rattle.layout.specs.declared.RecordEnd.{RecordEnd}
-use Rattle.layout.specs.declared.RecordEnd.TheVariants.{At, Broken}
 
 abbrev pub parts_of : List ℕ → Components → Parts
 parts_of s Scalar = scalar
-parts_of s (Elements stride elem len) = elements stride elem len
-parts_of s (Fields at count) = fields (fields_at s at count)
+parts_of s (Elements a) = elements a.stride a.elem a.len
+parts_of s (Fields fs) = fields (fields_at s fs.at fs.count)
 
 -- the layout that the code's answer stands for
 abbrev pub layout_in : List ℕ → TypeLayout → Layout
@@ -25,8 +23,8 @@ layout_in s Failed = failed
 -- a stride is not 0, and fields lie within the table
 abbrev pub FormedParts : List ℕ → Components → Type 0
 FormedParts s Scalar = Unit {0}
-FormedParts s (Elements stride elem len) = 0 < stride
-FormedParts s (Fields at count) = at + count * 8 ≤ length s
+FormedParts s (Elements a) = 0 < a.stride
+FormedParts s (Fields fs) = fs.at + fs.count * 8 ≤ length s
 
 abbrev pub Formed : List ℕ → TypeLayout → Type 0
 Formed s (Concrete size dyn parts) = FormedParts s parts
@@ -51,6 +49,7 @@ pub record Ended (s : List ℕ) (at end : ℕ) : Type 0 where
   pub near : end ≤ at + 523
   pub within : end ≤ length s
 
-abbrev pub Ends : List ℕ → ℕ → RecordEnd → Type 0
-Ends s at (At end) = Ended s at end
-Ends s at Broken = read_layout (drop at s) ≡ broken
+-- so it does up to the end that is told; with none, no record stands there
+abbrev pub Ends : List ℕ → ℕ → Option ℕ → Type 0
+Ends s at (Some end) = Ended s at end
+Ends s at None = read_layout (drop at s) ≡ broken

@@ -1,8 +1,8 @@
 // Layout tables: which bytes are one, what the record of a type says, and which of its components contain a range.
 #![tactic(auto)]
 
-ghost use Rattle.std.specs.Prelude.{◌≡◌, true, ◌+◌, ◌*◌, ◌<◌, ◌≤◌, length, get_or};
-ghost use Rattle.numbers.specs.Words.{word};
+ghost use Rattle.std.specs.Prelude.{◌≡◌, SomeIff, true, ◌+◌, ◌*◌, ◌<◌, ◌≤◌, length, get_or};
+ghost use Rattle.numbers.specs.Words.{number_at, word};
 ghost use Rattle.definitions.specs.Table.{is_concrete, fixed_size, is_dynamic};
 ghost use Rattle.definitions.specs.Containment.{end_of, at_length, element_size};
 ghost use Rattle.qptr.specs.Values.{size_of};
@@ -11,7 +11,7 @@ ghost use Rattle.layout.specs.Values.{Whole, Reads, Ends};
 ghost use Rattle.layout.specs.Places.{Room, Accepted, InTable, LayoutIs, Says, Standing, Earlier, FieldsAdmitted, Admitted};
 ghost use Rattle.layout.specs.Containing.{size_in, InElements, Contains, FieldsInTable, InFields, Finds};
 
-use numbers::{get32, number};
+use numbers::{get16, get32};
 use qptr::MaxSize;
 
 // How many records a table may have, and how many fields one of them.
@@ -24,7 +24,7 @@ const FIELDS: usize = 64;
 
 // A record is one byte, its kind, and then for the first three kinds size and dynamic stride, 4 bytes each. Elements go on with
 // stride, component type and length, 4 bytes each, so 21 bytes in all; fields with their count, 2 bytes, and from byte 11 on
-// offset and type, 4 bytes each.
+// offset and type, 4 bytes each. The kinds are bytes of the format, each matched once as it is read: an enum would be matched again.
 const SCALAR: u8 = 0x20;
 
 const ELEMENTS: u8 = 0x21;
@@ -35,11 +35,12 @@ const HANDLE: u8 = 0x23;
 
 const FAILED: u8 = 0x24;
 
-// The bytes of a count, of records or of fields.
-const COUNT: usize = 2;
-
-// The last number of 32 bits.
-const MAX: u32 = 4294967295;
+// A layout table: its bytes, and where each of its records begins, as `accept` found it.
+#[derive(Clone, Copy)]
+pub struct Table<'a> {
+    pub bytes: &'a [u8],
+    pub places: &'a [u32],
+}
 
 // The layout of a type. A handle stands for an array of handles too.
 #[derive(Clone, Copy)]
@@ -57,10 +58,23 @@ pub enum TypeLayout {
 #[derive(Clone, Copy)]
 pub enum Components {
     Scalar,
-    // a length of 0 is none
-    Elements { stride: u32, elem: u32, len: u32 },
-    // so many, from this byte of the table on
-    Fields { at: usize, count: usize },
+    Elements(Array),
+    Fields(FieldList),
+}
+
+// Elements of one type. A length of 0 is none.
+#[derive(Clone, Copy)]
+pub struct Array {
+    pub stride: u32,
+    pub elem: u32,
+    pub len: u32,
+}
+
+// So many fields, from this byte of the table on.
+#[derive(Clone, Copy)]
+pub struct FieldList {
+    pub at: usize,
+    pub count: usize,
 }
 
 #[derive(Clone, Copy)]
@@ -69,18 +83,12 @@ pub struct Field {
     pub ty: u32,
 }
 
-// Where a record ends, if the bytes are one.
+// The next component that contains a range: its type, the offset that remains in it, and the index to go on from.
 #[derive(Clone, Copy)]
-pub enum RecordEnd {
-    At(usize),
-    Broken,
-}
-
-// What acceptance found: whether the bytes are a table, and how many records it has.
-#[derive(Clone, Copy)]
-pub struct Records {
-    pub ok: bool,
-    pub count: usize,
+pub struct Component {
+    pub ty: u32,
+    pub rest: u32,
+    pub next: usize,
 }
 
 fn field_at(s: &[u8], at: usize) -> Field
@@ -105,245 +113,216 @@ fn concrete_at(s: &[u8], at: usize, components: Components) -> TypeLayout
     }
 }
 
+fn array_at(s: &[u8], at: usize) -> Array
+    requires { at + 12 ≤ length s.now }
+    ensures { (result.stride ≡ word s.now at) × (result.elem ≡ word s.now (at + 4)) × (result.len ≡ word s.now (at + 8)) }
+{
+    Array {
+        stride: get32(s, at),
+        elem: get32(s, at + 4),
+        len: get32(s, at + 8),
+    }
+}
+
+// The fields whose count stands here; they begin behind it.
+fn field_list_at(s: &[u8], at: usize) -> FieldList
+    requires { at + 2 ≤ length s.now }
+    ensures { (result.at ≡ at + 2) × (result.count ≡ number_at 2 s.now at) }
+{
+    FieldList {
+        at: at + 2,
+        count: get16(s, at) as usize,
+    }
+}
+
 // What a whole record says.
 fn layout_at(s: &[u8], at: usize) -> TypeLayout
     requires { Whole s.now at }
     ensures { Reads s.now at result }
 {
-    let kind = s[at];
-    if kind == HANDLE {
-        return TypeLayout::Handle;
+    match s[at] {
+        HANDLE => TypeLayout::Handle,
+        FAILED => TypeLayout::Failed,
+        SCALAR => concrete_at(s, at, Components::Scalar),
+        ELEMENTS => concrete_at(s, at, Components::Elements(array_at(s, at + 9))),
+        _ => concrete_at(s, at, Components::Fields(field_list_at(s, at + 9))),
     }
-    if kind == FAILED {
-        return TypeLayout::Failed;
-    }
-    if kind == SCALAR {
-        return concrete_at(s, at, Components::Scalar);
-    }
-    if kind == ELEMENTS {
-        let components = Components::Elements {
-            stride: get32(s, at + 9),
-            elem: get32(s, at + 13),
-            len: get32(s, at + 17),
-        };
-        return concrete_at(s, at, components);
-    }
-    let components = Components::Fields {
-        at: at + 11,
-        count: number(s, at + 9, COUNT) as usize,
-    };
-    concrete_at(s, at, components)
 }
 
-// The layout of a type, found in one step.
-pub fn layout_of(s: &[u8], places: &[u32], ty: u32) -> TypeLayout
-    requires { InTable s.now places.now ty }
-    ensures { LayoutIs s.now places.now ty result }
+// Where so many bytes from here on end, if they are there.
+fn end_after(s: &[u8], at: usize, size: usize) -> Option<usize>
+    requires { at ≤ length s.now }
+    ensures { SomeIff result (at + size ≤ length s.now) (at + size) }
 {
-    layout_at(s, places[ty as usize] as usize)
-}
-
-pub fn is_concrete(s: &[u8], places: &[u32], ty: u32) -> bool
-    requires { InTable s.now places.now ty }
-    ensures { Says is_concrete s.now places.now ty result }
-{
-    match layout_of(s, places, ty) {
-        TypeLayout::Concrete { .. } => true,
-        TypeLayout::Handle => false,
-        TypeLayout::Failed => false,
+    if s.len() - at < size {
+        return None;
     }
+    Some(at + size)
 }
 
-// The size, which leaves a dynamic part out; 0 for what is not concrete.
-pub fn fixed_size(s: &[u8], places: &[u32], ty: u32) -> u32
-    requires { InTable s.now places.now ty }
-    ensures { Says fixed_size s.now places.now ty result }
-{
-    match layout_of(s, places, ty) {
-        TypeLayout::Concrete { size, .. } => size,
-        TypeLayout::Handle => 0,
-        TypeLayout::Failed => 0,
-    }
-}
-
-pub fn is_dynamic(s: &[u8], places: &[u32], ty: u32) -> bool
-    requires { InTable s.now places.now ty }
-    ensures { Says is_dynamic s.now places.now ty result }
-{
-    match layout_of(s, places, ty) {
-        TypeLayout::Concrete { dyn_stride, .. } => 0 < dyn_stride,
-        TypeLayout::Handle => false,
-        TypeLayout::Failed => false,
-    }
-}
-
-fn elements_end(s: &[u8], at: usize) -> RecordEnd
+fn elements_end(s: &[u8], at: usize) -> Option<usize>
     requires { (at < length s.now) × (get_or s.now at 0 ≡ 0x21) }
     ensures { Ends s.now at result }
 {
-    if s.len() - at < 21 {
-        return RecordEnd::Broken;
-    }
+    let end = end_after(s, at, 21)?;
     if get32(s, at + 9) == 0 {
-        return RecordEnd::Broken;
+        return None;
     }
-    RecordEnd::At(at + 21)
+    Some(end)
 }
 
-fn fields_end(s: &[u8], at: usize) -> RecordEnd
+fn fields_end(s: &[u8], at: usize) -> Option<usize>
     requires { (at < length s.now) × (get_or s.now at 0 ≡ 0x22) }
     ensures { Ends s.now at result }
 {
-    let left = s.len() - at;
-    if left < 11 {
-        return RecordEnd::Broken;
-    }
-    let count = number(s, at + 9, COUNT) as usize;
+    end_after(s, at, 11)?;
+    let count = get16(s, at + 9) as usize;
     if FIELDS < count {
-        return RecordEnd::Broken;
+        return None;
     }
-    let size = 11 + count * 8;
-    if left < size {
-        return RecordEnd::Broken;
-    }
-    RecordEnd::At(at + size)
+    end_after(s, at, 11 + count * 8)
 }
 
 // Where the record that begins here ends. Which types its components have is not asked yet.
-fn record_end(s: &[u8], at: usize) -> RecordEnd
+fn record_end(s: &[u8], at: usize) -> Option<usize>
     requires { at ≤ length s.now }
     ensures { Ends s.now at result }
 {
-    let left = s.len() - at;
-    if left == 0 {
-        return RecordEnd::Broken;
+    match *s.get(at)? {
+        HANDLE | FAILED => Some(at + 1),
+        SCALAR => end_after(s, at, 9),
+        ELEMENTS => elements_end(s, at),
+        FIELD_LIST => fields_end(s, at),
+        _ => None,
     }
-    let kind = s[at];
-    if kind == HANDLE {
-        return RecordEnd::At(at + 1);
-    }
-    if kind == FAILED {
-        return RecordEnd::At(at + 1);
-    }
-    if kind == ELEMENTS {
-        return elements_end(s, at);
-    }
-    if kind == FIELD_LIST {
-        return fields_end(s, at);
-    }
-    if kind == SCALAR {
-        if 9 <= left {
-            return RecordEnd::At(at + 9);
-        }
-    }
-    RecordEnd::Broken
 }
 
-// Is this the type of an earlier concrete record, where n are earlier?
-fn is_earlier(s: &[u8], places: &[u32], n: usize, ty: u32) -> bool
-    requires { Standing s.now places.now n }
-    ensures { Earlier s.now places.now n ty result }
-{
-    if n <= ty as usize {
-        return false;
+impl Table<'_> {
+    // The layout of a type, found in one step.
+    pub fn layout_of(&self, ty: u32) -> TypeLayout
+        requires { InTable self.now ty }
+        ensures { LayoutIs self.now ty result }
+    {
+        layout_at(self.bytes, self.places[ty as usize] as usize)
     }
-    is_concrete(s, places, ty)
-}
 
-// Does each field have an earlier concrete type, start no earlier than the one before it ends, and end within 32 bits?
-fn fields_admitted(s: &[u8], places: &[u32], n: usize, at: usize, count: usize) -> bool
-    requires standing { Standing s.now places.now n }
-    requires count_in_bounds { at + count * 8 ≤ length s.now }
-    ensures { FieldsAdmitted s.now places.now n at count result }
-{
-    let mut end: u32 = 0;
-    let mut i: usize = 0;
-    while i < count {
-        let field = field_at(s, at + i * 8);
-        let offset = field.offset;
-        let ty = field.ty;
-        if !is_earlier(s, places, n, ty) {
-            return false;
-        }
-        if offset < end {
-            return false;
-        }
-        let size = fixed_size(s, places, ty);
-        if MAX - offset < size {
-            return false;
-        }
-        end = offset + size;
-        i += 1;
-        // a field with a dynamic stride stands last
-        if is_dynamic(s, places, ty) {
-            return i == count;
+    pub fn is_concrete(&self, ty: u32) -> bool
+        requires { InTable self.now ty }
+        ensures { Says is_concrete self.now ty result }
+    {
+        matches!(self.layout_of(ty), TypeLayout::Concrete { .. })
+    }
+
+    // The size, which leaves a dynamic part out; 0 for what is not concrete.
+    pub fn fixed_size(&self, ty: u32) -> u32
+        requires { InTable self.now ty }
+        ensures { Says fixed_size self.now ty result }
+    {
+        match self.layout_of(ty) {
+            TypeLayout::Concrete { size, .. } => size,
+            TypeLayout::Handle | TypeLayout::Failed => 0,
         }
     }
-    true
-}
 
-// Do the components of the record here keep the rules, where n records are earlier?
-fn is_admitted(s: &[u8], places: &[u32], n: usize, at: usize) -> bool
-    requires standing { Standing s.now places.now n }
-    requires whole { Whole s.now at }
-    ensures { Admitted s.now places.now n at result }
-{
-    match layout_at(s, at) {
-        TypeLayout::Concrete { components, .. } => match components {
+    pub fn is_dynamic(&self, ty: u32) -> bool
+        requires { InTable self.now ty }
+        ensures { Says is_dynamic self.now ty result }
+    {
+        match self.layout_of(ty) {
+            TypeLayout::Concrete { dyn_stride, .. } => 0 < dyn_stride,
+            TypeLayout::Handle | TypeLayout::Failed => false,
+        }
+    }
+
+    // Is this the type of a concrete record of the table, which has the records so far?
+    fn is_earlier(&self, ty: u32) -> bool
+        requires { Standing self.now }
+        ensures { Earlier self.now ty result }
+    {
+        (ty as usize) < self.places.len() && self.is_concrete(ty)
+    }
+
+    // Does each field have an earlier concrete type, start no earlier than the one before it ends, and end within 32 bits?
+    fn fields_admitted(&self, fields: FieldList) -> bool
+        requires standing { Standing self.now }
+        requires count_in_bounds { fields.at + fields.count * 8 ≤ length self.now.bytes.now }
+        ensures { FieldsAdmitted self.now fields result }
+    {
+        let mut end: u32 = 0;
+        for i in 0..fields.count {
+            let Field { offset, ty } = field_at(self.bytes, fields.at + i * 8);
+            if !self.is_earlier(ty) {
+                return false;
+            }
+            if offset < end {
+                return false;
+            }
+            let Some(past) = offset.checked_add(self.fixed_size(ty)) else {
+                return false;
+            };
+            end = past;
+            // a field with a dynamic stride stands last
+            if self.is_dynamic(ty) {
+                return i + 1 == fields.count;
+            }
+        }
+        true
+    }
+
+    // Do the components of the record here keep the rules, where the table has the records before it?
+    fn is_admitted(&self, at: usize) -> bool
+        requires standing { Standing self.now }
+        requires whole { Whole self.now.bytes.now at }
+        ensures { Admitted self.now at result }
+    {
+        let TypeLayout::Concrete { components, .. } = layout_at(self.bytes, at) else {
+            return true;
+        };
+        match components {
             Components::Scalar => true,
-            Components::Elements { elem, .. } => is_earlier(s, places, n, elem),
-            Components::Fields { at, count } => fields_admitted(s, places, n, at, count),
-        },
-        TypeLayout::Handle => true,
-        TypeLayout::Failed => true,
+            Components::Elements(array) => self.is_earlier(array.elem),
+            Components::Fields(fields) => self.fields_admitted(fields),
+        }
     }
 }
-
-const REFUSED: Records = Records {
-    ok: false,
-    count: 0,
-};
 
 // Does a table say that it has few records?
 pub fn has_few(s: &[u8]) -> bool
     ensures { result ≡ true → record_count s.now ≤ 32 }
 {
-    if s.len() < 2 {
-        return false;
-    }
-    number(s, 0, COUNT) as usize <= FEW
+    2 <= s.len() && get16(s, 0) as usize <= FEW
 }
 
-// Is this a layout table? Where each record begins is kept in `places`, for `layout_of` and all that rests on it. A table that
-// is accepted has at most 535,554 bytes, so a place fits 32 bits.
-pub fn accept(s: &[u8], places: &mut [u32]) -> Records
+// Is this a layout table? How many records it has, if it is. Where each record begins is kept in `places`, for a `Table` over both.
+// A table that is accepted has at most 535,554 bytes, so a place fits 32 bits.
+pub fn accept(s: &[u8], places: &mut [u32]) -> Option<usize>
     requires { Room s.now places.old }
     ensures { Accepted s.now result places.new }
 {
     if s.len() < 2 {
-        return REFUSED;
+        return None;
     }
-    let count = number(s, 0, COUNT) as usize;
+    let count = get16(s, 0) as usize;
     if RECORDS < count {
-        return REFUSED;
+        return None;
     }
     let mut at: usize = 2;
-    let mut n: usize = 0;
-    while n < count {
-        let RecordEnd::At(end) = record_end(s, at) else {
-            return REFUSED;
+    for n in 0..count {
+        let end = record_end(s, at)?;
+        let earlier = Table {
+            bytes: s,
+            places: &places[..n],
         };
-        if !is_admitted(s, places, n, at) {
-            return REFUSED;
+        if !earlier.is_admitted(at) {
+            return None;
         }
         places[n] = at as u32;
         at = end;
-        n += 1;
     }
     if at < s.len() {
-        return REFUSED;
+        return None;
     }
-    Records { ok: true, count: n }
+    Some(count)
 }
 
 // The end of a range, capped at the last number of 32 bits; a dynamic size counts as 0 here.
@@ -351,160 +330,113 @@ pub fn end_of(start: u32, size: MaxSize) -> u32
     ensures { result ≡ end_of start (size_of size) }
 {
     match size {
-        MaxSize::Fixed(n) => {
-            if MAX - start < n {
-                return MAX;
-            }
-            start + n
-        }
+        MaxSize::Fixed(n) => start.saturating_add(n),
         MaxSize::Dynamic => start,
     }
 }
 
-// The size of an element, if there is one.
-#[derive(Clone, Copy)]
-pub enum ElementSize {
-    Bytes(u32),
-    Missing,
-}
-
 // What an array contains at its length: an element of size 0.
-pub fn at_length() -> ElementSize
+pub fn at_length() -> Option<u32>
     ensures { size_in result ≡ at_length }
 {
-    ElementSize::Bytes(0)
+    Some(0)
 }
 
 // The size of the element at an index, where a component has this size and the array this length (0 = none).
-fn element_size(size: u32, len: u32, index: u32) -> ElementSize
+fn element_size(size: u32, len: u32, index: u32) -> Option<u32>
     ensures { size_in result ≡ element_size size len index }
 {
-    if len == 0 {
-        return ElementSize::Bytes(size);
+    if len == 0 || index < len {
+        return Some(size);
     }
-    if index < len {
-        return ElementSize::Bytes(size);
-    }
-    if index == len {
-        return at_length();
-    }
-    ElementSize::Missing
+    if index == len { at_length() } else { None }
 }
 
-// The next component that contains a range: its type, the offset that remains in it, and the index to go on from.
-#[derive(Clone, Copy)]
-pub enum Containing {
-    In { ty: u32, rest: u32, next: usize },
-    Nothing,
-}
-
-// The element that contains the range. There is at most one, so the index to go on from is past it.
-pub fn in_elements(
-    s: &[u8],
-    places: &[u32],
-    stride: u32,
-    elem: u32,
-    len: u32,
-    start: u32,
-    end: u32,
-) -> Containing
-    requires { (0 < stride) × InTable s.now places.now elem }
-    ensures { InElements s.now places.now stride elem len start end result }
-{
-    let index = start / stride;
-    let from = index * stride;
-    let ElementSize::Bytes(size) = element_size(fixed_size(s, places, elem), len, index) else {
-        return Containing::Nothing;
-    };
-    if MAX - from < size {
-        return Containing::Nothing;
-    }
-    if from + size < end {
-        return Containing::Nothing;
-    }
-    Containing::In {
-        ty: elem,
-        rest: start % stride,
-        next: 1,
-    }
-}
-
-// Does the field contain the range? A dynamic one has no end.
-fn field_contains(s: &[u8], places: &[u32], field: Field, start: u32, end: u32) -> bool
-    requires { InTable s.now places.now field.ty }
-    ensures { Contains s.now places.now field start end result }
-{
-    let offset = field.offset;
-    let ty = field.ty;
-    if start < offset {
-        return false;
-    }
-    if is_dynamic(s, places, ty) {
-        return true;
-    }
-    let field_end = offset as u64 + fixed_size(s, places, ty) as u64;
-    end as u64 <= field_end
-}
-
-// The first field that contains the range, from index `from` on.
-pub fn in_fields(
-    s: &[u8],
-    places: &[u32],
-    at: usize,
-    count: usize,
-    from: usize,
-    start: u32,
-    end: u32,
-) -> Containing
-    requires { FieldsInTable s.now places.now at count }
-    ensures { InFields s.now places.now at count from start end result }
-{
-    let mut i = from;
-    while i < count {
-        let field = field_at(s, at + i * 8);
-        i += 1;
-        if field_contains(s, places, field, start, end) {
-            return Containing::In {
-                ty: field.ty,
-                rest: start - field.offset,
-                next: i,
-            };
+impl Table<'_> {
+    // The element that contains the range. There is at most one, so the index to go on from is past it.
+    pub fn in_elements(&self, array: Array, start: u32, end: u32) -> Option<Component>
+        requires { (0 < array.stride) × InTable self.now array.elem }
+        ensures { InElements self.now array start end result }
+    {
+        let index = start / array.stride;
+        let from = index * array.stride;
+        let size = element_size(self.fixed_size(array.elem), array.len, index)?;
+        if from.checked_add(size)? < end {
+            return None;
         }
+        Some(Component {
+            ty: array.elem,
+            rest: start % array.stride,
+            next: 1,
+        })
     }
-    Containing::Nothing
-}
 
-// The source's `find_components_containing`: the first component of a type that contains the range, from index `from` on.
-pub fn find_components_containing(
-    s: &[u8],
-    places: &[u32],
-    ty: u32,
-    from: usize,
-    start: u32,
-    end: u32,
-) -> Containing
-    requires { InTable s.now places.now ty }
-    ensures { Finds s.now places.now ty from start end result }
-{
-    match layout_of(s, places, ty) {
-        TypeLayout::Concrete { components, .. } => match components {
-            Components::Scalar => Containing::Nothing,
-            Components::Elements { stride, elem, len } => {
-                if from == 0 {
-                    return in_elements(s, places, stride, elem, len, start, end);
-                }
-                Containing::Nothing
+    // Does the field contain the range? A dynamic one has no end.
+    fn field_contains(&self, field: Field, start: u32, end: u32) -> bool
+        requires { InTable self.now field.ty }
+        ensures { Contains self.now field start end result }
+    {
+        let Field { offset, ty } = field;
+        if start < offset {
+            return false;
+        }
+        self.is_dynamic(ty) || end <= offset.saturating_add(self.fixed_size(ty))
+    }
+
+    // The first field that contains the range, from index `from` on.
+    pub fn in_fields(
+        &self,
+        fields: FieldList,
+        from: usize,
+        start: u32,
+        end: u32,
+    ) -> Option<Component>
+        requires { FieldsInTable self.now fields }
+        ensures { InFields self.now fields from start end result }
+    {
+        for i in from..fields.count {
+            let field = field_at(self.bytes, fields.at + i * 8);
+            if self.field_contains(field, start, end) {
+                return Some(Component {
+                    ty: field.ty,
+                    rest: start - field.offset,
+                    next: i + 1,
+                });
             }
-            Components::Fields { at, count } => {
+        }
+        None
+    }
+
+    // The source's `find_components_containing`: the first component of a type that contains the range, from index `from` on.
+    pub fn find_components_containing(
+        &self,
+        ty: u32,
+        from: usize,
+        start: u32,
+        end: u32,
+    ) -> Option<Component>
+        requires { InTable self.now ty }
+        ensures { Finds self.now ty from start end result }
+    {
+        let TypeLayout::Concrete { components, .. } = self.layout_of(ty) else {
+            return None;
+        };
+        match components {
+            Components::Scalar => None,
+            Components::Elements(array) => {
+                if from == 0 {
+                    return self.in_elements(array, start, end);
+                }
+                None
+            }
+            Components::Fields(fields) => {
                 // The first search is compiled for itself, with all that its loop needs in registers. Later ones come only where a
                 // component contains the range and does not support the usage.
                 if from == 0 {
-                    return in_fields(s, places, at, count, 0, start, end);
+                    return self.in_fields(fields, 0, start, end);
                 }
-                in_fields(s, places, at, count, from, start, end)
+                self.in_fields(fields, from, start, end)
             }
-        },
-        TypeLayout::Handle => Containing::Nothing,
-        TypeLayout::Failed => Containing::Nothing,
+        }
     }
 }

@@ -1,12 +1,6 @@
 -- The invariant: n records stand where the places say, and the rest of the table is to be read behind them.
-use Prim.Native.Nat.{◌-◌}
-use mathlib.Core.Path.{◌≡◌}
-use lib.ListN.{length}
 use Rattle.layout.proofs.Acceptance.{Reading}
 use Rattle.layout.proofs.accept.Given as goal
 
 abbrev pub invariant-loop-n : goal.invariant-loop-n
-invariant-loop-n l = Reading l.s l.places l.count l.at l.n × (length l.places ≡ length l.initial.places)
-
-abbrev pub decreases-loop-n : goal.decreases-loop-n
-decreases-loop-n l = l.count - l.n
+invariant-loop-n l = Reading l.s l.places l.count l.at l.n

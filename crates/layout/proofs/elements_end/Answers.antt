@@ -1,14 +1,14 @@
 -- Elements that are cut off, or of stride 0, are no record; others end after 21 bytes.
 use native.Mathlib.Omega.{arith}
-use Rattle.layout.proofs.View.{refused}
-use Rattle.layout.proofs.Ends.{elements_ends}
+use borrow.Author.Rules.{rules}
+use Rattle.layout.proofs.Ends.{no_elements, elements_ends}
 use Rattle.layout.proofs.elements_end.Goals as goal
 
-pub returns-then-s-at-lt21 : goal.returns-then-s-at-lt21
-returns-then-s-at-lt21 c = let a = c.args in refused a.s.now a.at (omega arith) (omega arith) (omega arith) (omega arith) (omega arith)
+pub returns-in_err-end : goal.returns-in_err-end
+returns-in_err-end c = let h = c.in_err-end.ensures in rw c.from_residual.ensures (search (no_elements, rules))
 
 pub returns-then-get32-eq0 : goal.returns-then-get32-eq0
-returns-then-get32-eq0 c = let a = c.args in refused a.s.now a.at (omega arith) (omega arith) (omega arith) (omega arith) (omega arith)
+returns-then-get32-eq0 c = search (no_elements, rules)
 
 pub returns : goal.returns
-returns c = let a = c.args in elements_ends a.s.now a.at (omega arith) (omega arith) (omega arith)
+returns c = rw c.in_ok-end.ensures.1 (elements_ends _ _ c.in_ok-end.ensures.0 c.requires.1 (omega arith))

@@ -1,17 +1,13 @@
 -- Fields that are cut off, or more than 64, are no record; others end after the last of them.
-use native.Mathlib.Omega.{arith}
-use Rattle.layout.proofs.View.{refused}
-use Rattle.layout.proofs.Ends.{fields_end}
+use borrow.Author.Rules.{rules}
+use Rattle.layout.proofs.Ends.{no_fields, fields_ends}
 use Rattle.layout.proofs.fields_end.Goals as goal
 
-pub returns-then-left-lt11 : goal.returns-then-left-lt11
-returns-then-left-lt11 c = let a = c.args in refused a.s.now a.at (omega arith) (omega arith) (omega arith) (omega arith) (omega arith)
+pub returns-in_err-end_after : goal.returns-in_err-end_after
+returns-in_err-end_after c = let h = c.in_err-end_after.ensures in rw c.from_residual.ensures (search (no_fields, rules))
 
 pub returns-then-count-gt-FIELDS : goal.returns-then-count-gt-FIELDS
-returns-then-count-gt-FIELDS c = let a = c.args in refused a.s.now a.at (omega arith) (omega arith) (omega arith) (omega arith) (omega arith)
-
-pub returns-then-left-size : goal.returns-then-left-size
-returns-then-left-size c = let a = c.args in refused a.s.now a.at (omega arith) (omega arith) (omega arith) (omega arith) (omega arith)
+returns-then-count-gt-FIELDS c = search (no_fields, rules)
 
 pub returns : goal.returns
-returns c = let a = c.args in fields_end a.s.now a.at c.number-count.result (omega arith) (omega arith) (omega arith) (omega arith)
+returns c = search (fields_ends, rules)

@@ -1,23 +1,16 @@
 -- Each kind has its length; any other byte is no kind.
-use native.Mathlib.Omega.{arith}
-use Rattle.layout.proofs.View.{refused}
-use Rattle.layout.proofs.Ends.{handle_ends, failed_ends, scalar_ends}
+use borrow.Author.Rules.{rules}
+use Rattle.layout.proofs.Ends.{no_kind, lone_ends, scalar_ends}
 use Rattle.layout.proofs.record_end.Goals as goal
 
-pub returns-then-left-eq0 : goal.returns-then-left-eq0
-returns-then-left-eq0 c = let a = c.args in refused a.s.now a.at (omega arith) (omega arith) (omega arith) (omega arith) (omega arith)
+pub returns-in-35 : goal.returns-in-35
+returns-in-35 c = let l = c.in_ok-get.ensures.lookup in let k = l.3.1 0 in search (lone_ends, rules)
 
-pub returns-then-kind-eq-HANDLE : goal.returns-then-kind-eq-HANDLE
-returns-then-kind-eq-HANDLE c = let a = c.args in handle_ends a.s.now a.at (omega arith) (omega arith)
+pub returns-in-32 : goal.returns-in-32
+returns-in-32 c = let l = c.in_ok-get.ensures.lookup in let k = l.3.1 0 in search (scalar_ends, rules)
 
-pub returns-then-kind-eq-FAILED : goal.returns-then-kind-eq-FAILED
-returns-then-kind-eq-FAILED c = let a = c.args in failed_ends a.s.now a.at (omega arith) (omega arith)
+pub returns-in_default : goal.returns-in_default
+returns-in_default c = let l = c.in_ok-get.ensures.lookup in let k = l.3.1 0 in search (no_kind, rules)
 
-pub returns-then-left-ge9 : goal.returns-then-left-ge9
-returns-then-left-ge9 c = let a = c.args in scalar_ends a.s.now a.at (omega arith) (omega arith)
-
-pub returns-else-left-ge9 : goal.returns-else-left-ge9
-returns-else-left-ge9 c = let a = c.args in refused a.s.now a.at (omega arith) (omega arith) (omega arith) (omega arith) (omega arith)
-
-pub returns-else-kind-eq-SCALAR : goal.returns-else-kind-eq-SCALAR
-returns-else-kind-eq-SCALAR c = let a = c.args in refused a.s.now a.at (omega arith) (omega arith) (omega arith) (omega arith) (omega arith)
+pub returns-in_default-2 : goal.returns-in_default-2
+returns-in_default-2 c = let l = c.in_ok-get.ensures.lookup in let k = l.3.1 0 in search (no_kind, rules)

@@ -1,7 +1,7 @@
 -- Components are earlier types of the table, so that each may be asked for its size.
 use borrow.Author.Rules.{rules}
-use Rattle.layout.proofs.Finding.{finds, some_stride, element_type, finds_element, no_more_elements, field_types, finds_field, finds_first_field, finds_nothing}
-use Rattle.layout.proofs.find_components_containing.Goals as goal
+use Rattle.layout.proofs.Finding.{some_stride, element_type, finds_element, field_types, finds_field, finds_first_field}
+use Rattle.layout.proofs.Table.find_components_containing.Goals as goal
 
 pub in_elements-requires : goal.in_elements-requires
 in_elements-requires c = search (some_stride, element_type, rules)
@@ -18,17 +18,5 @@ returns-then-from-eq0-2 c = search (finds_first_field, rules)
 pub in_fields-requires-in-Fields : goal.in_fields-requires-in-Fields
 in_fields-requires-in-Fields c = search (field_types, rules)
 
-pub returns-in-Scalar : goal.returns-in-Scalar
-returns-in-Scalar c = search (finds, rules)
-
-pub returns-else-from-eq0 : goal.returns-else-from-eq0
-returns-else-from-eq0 c = search (no_more_elements, rules)
-
 pub returns-else-from-eq0-2 : goal.returns-else-from-eq0-2
 returns-else-from-eq0-2 c = search (finds_field, rules)
-
-pub returns-in-Handle : goal.returns-in-Handle
-returns-in-Handle c = search (finds_nothing, rules)
-
-pub returns-in-Failed : goal.returns-in-Failed
-returns-in-Failed c = search (finds_nothing, rules)
