@@ -1,72 +1,67 @@
--- One entry, and one element: each test that fails decides, and the last one is the answer.
+-- One entry, and one element: each test that fails decides, and where none does they hold.
 -- Assumes nothing.
-use Prim.Native.Nat.{ℕ, ◌+◌}
-use mathlib.Core.Path.{◌≡◌, refl}
+use Prim.Native.Nat.{ℕ, ◌+◌, ◌<◌}
+use mathlib.Core.Path.{◌≡◌, refl, sym, ◌∙◌}
 use mathlib.Core.Bool.{Bool, true, false, ◌&&◌, not}
 use native.Mathlib.Omega.{arith}
-use lib.Dec.{leb, ltb, eqb}
-use borrow.Author.Tests.{leb-true, leb-false, lt-ltb, le-ltb, le-leb, not-false}
+use borrow.Author.Tests.{not-true, not-false, lt-ltb, le-ltb, le-leb}
+use lib.Dec.{leb, eqb}
+use Rattle.std.specs.Ordering.{partial_lt}
 use Rattle.definitions.specs.Limits.{max32}
 use Rattle.definitions.specs.Usage.{Size, fixed, dynamic}
 use Rattle.definitions.specs.Place.{ends, past32, ◌≤ˢ◌}
+use Rattle.qptr.specs.declared.MaxSize.{MaxSize}
+use Rattle.qptr.specs.declared.MaxSize.TheVariants.{Fixed}
+use Rattle.qptr.specs.contracts.MaxSizePartialEq.TheImpl.{eq-value as size_eq}
+use Rattle.qptr.specs.contracts.MaxSizePartialOrd.TheImpl.{partial_cmp-value as size_cmp}
+use Rattle.qptr.specs.Values.{size_of}
+use Rattle.qptr.proofs.Orders.{less_size, same_size}
 use Rattle.soundness.specs.Own.{follows, fills}
 
--- a call that says whether a test fails
+-- an entry at o; early is whether it starts before the place, some whether it is not empty
 
-fails : (t b r : Bool) → r ≡ not t → r ≡ true → false ≡ (t && b)
-fails true b r e h = cc
-fails false b r e h = refl
+first_fails : (a b c : Bool) → a ≡ false → (a && (b && not c)) ≡ false
+first_fails a b c e = rw e refl
 
-holds : (t b x r : Bool) → r ≡ not t → r ≡ false → x ≡ b → x ≡ (t && b)
-holds true b x r e h h' = h'
-holds false b x r e h h' = cc
+second_fails : (a b c : Bool) → b ≡ false → (a && (b && not c)) ≡ false
+second_fails true b c e = rw e refl
+second_fails false b c e = refl
 
--- follows
+third_fails : (a b c : Bool) → c ≡ true → (a && (b && not c)) ≡ false
+third_fails true true c e = rw e refl
+third_fails true false c e = refl
+third_fails false b c e = refl
 
-pub starts_before : (p z : Size) (o : ℕ) (r : Bool) → r ≡ not (p ≤ˢ fixed o) → r ≡ true → false ≡ follows p o z
-unfolding follows
-starts_before p z o r e h = fails (p ≤ˢ fixed o) ((fixed 1 ≤ˢ z) && not (past32 (ends o z))) r e h
+module _ (place : MaxSize) (o : ℕ) (early : Bool) (e : early ≡ partial_lt size_cmp.it (Fixed o) place) where
+  starts : {b : Bool} → early ≡ b → not (size_of place ≤ˢ fixed o) ≡ b
+  starts h = sym (less_size (Fixed o) place) ∙ sym e ∙ h
 
-module _ (p : Size) (o : ℕ) (r : Bool) (e : r ≡ not (p ≤ˢ fixed o)) (h : r ≡ false) where
-  pub follows_dynamic : true ≡ follows p o dynamic
+  pub starts_before : (z : Size) → early ≡ true → follows (size_of place) o z ≡ false
   unfolding follows
-  follows_dynamic = holds (p ≤ˢ fixed o) true true r e h refl
+  starts_before z h = first_fails _ _ _ (not-true (size_of place ≤ˢ fixed o) (starts h))
 
-  pub follows_empty : (n : ℕ) → n ≡ 0 → false ≡ follows p o (fixed n)
+  pub empty : (z : Size) (some : Bool) → some ≡ (fixed 1 ≤ˢ z) → some ≡ false → follows (size_of place) o z ≡ false
   unfolding follows
-  follows_empty n z = holds (p ≤ˢ fixed o) (leb 1 n && not (ltb max32 (o + n))) false r e h (rw z)
+  empty z some f h = second_fails (size_of place ≤ˢ fixed o) _ (past32 (ends o z)) (sym f ∙ h)
 
-  pub follows_fixed : (n : ℕ) → (n ≡ 0 → ⊥) → leb (o + n) max32 ≡ follows p o (fixed n)
+  pub too_far : (n : ℕ) → (o + n < 4294967296 → ⊥) → follows (size_of place) o (fixed n) ≡ false
   unfolding follows
-  follows_fixed n some = holds (p ≤ˢ fixed o) (leb 1 n && not (ltb max32 (o + n))) (leb (o + n) max32) r e h
-      (rw (le-leb 1 n (omega arith)) (not_past (leb (o + n) max32) refl))
-    where
-      not_past : (t : Bool) → leb (o + n) max32 ≡ t → t ≡ not (ltb max32 (o + n))
-      not_past true l = rw (le-ltb max32 (o + n) (leb-true _ _ l))
-      not_past false l = rw (lt-ltb max32 (o + n) (leb-false _ _ l))
+  too_far n h = third_fails (size_of place ≤ˢ fixed o) (leb 1 n) _ (lt-ltb max32 (o + n) (omega arith))
 
--- so the sum that it then makes is within 32 bits
-pub follows_in32 : (p z : Size) (o : ℕ) (r : Bool) → r ≡ follows p o z → not r ≡ false → past32 (ends o z) ≡ false
-unfolding follows
-follows_in32 p z o r e h = last (p ≤ˢ fixed o) (fixed 1 ≤ˢ z) (past32 (ends o z)) r e (not-false r h)
-  where
-    last : (a b c r : Bool) → r ≡ (a && (b && not c)) → r ≡ true → c ≡ false
-    last true true true r e h = cc
-    last true true false r e h = refl
-    last true false c r e h = cc
-    last false b c r e h = cc
+  pub follows_dynamic : early ≡ false → follows (size_of place) o dynamic ≡ true
+  unfolding follows
+  follows_dynamic h = rw (not-false (size_of place ≤ˢ fixed o) (starts h)) refl
 
--- fills
+  pub follows_fixed : (n : ℕ) (some : Bool) → early ≡ false → some ≡ leb 1 n → some ≡ true → o + n < 4294967296 → follows (size_of place) o (fixed n) ≡ true
+  unfolding follows
+  follows_fixed n some h f g l = rw (not-false (size_of place ≤ˢ fixed o) (starts h), sym f ∙ g, le-ltb max32 (o + n) (omega arith)) refl
 
-pub fills_nothing : (n : ℕ) (z : Size) → n ≡ 0 → false ≡ fills n z
+-- an element
+
+pub fills_same : (n : ℕ) (z : MaxSize) (r : Bool) → (n ≡ 0 → ⊥) → r ≡ size_eq.it z (Fixed n) → r ≡ fills n (size_of z)
 unfolding fills
-fills_nothing n z e = rw e
+fills_same n z r some e = rw (le-leb 1 n (omega arith)) (e ∙ same_size z n)
 
-module _ (n : ℕ) (some : n ≡ 0 → ⊥) where
-  pub fills_dynamic : false ≡ fills n dynamic
-  unfolding fills
-  fills_dynamic = rw (le-leb 1 n (omega arith))
-
-  pub fills_fixed : (m : ℕ) → eqb m n ≡ fills n (fixed m)
-  unfolding fills
-  fills_fixed m = rw (le-leb 1 n (omega arith))
+pub fills_nothing : (n : ℕ) (z : Size) → n ≡ 0 → not (eqb n 0) ≡ fills n z
+unfolding fills
+fills_nothing n z e = rw e refl

@@ -2,12 +2,16 @@
 -- Assumes nothing.
 use Prim.Native.Nat.{ℕ, suc, ◌+◌, ◌*◌, ◌≤◌}
 use mathlib.Core.Path.{◌≡◌, refl, sym, ap, ◌∙◌}
-use mathlib.Core.Bool.{Bool, true, false, not}
+use mathlib.Core.Bool.{Bool, true, false}
+use mathlib.Core.Logic.{◌⊎◌, inl, inr}
 use mathlib.Core.List.{List}
 use native.Mathlib.Omega.{arith}
 use native.Mathlib.Numerals.{add-one}
 use lib.ListN.{length}
-use borrow.Author.Tests.{not-true, not-false}
+use Rattle.qptr.specs.declared.Kind.{Kind}
+use Rattle.qptr.specs.declared.Kind.TheVariants.{Unused, StrictlyTyped, DirectAccess, OffsetBase, DynOffsetBase}
+use Rattle.qptr.specs.Values.{command_of, kind_of}
+use Rattle.qptr.proofs.Nodes.{kind_head}
 use Rattle.definitions.specs.Usage.{Size, fixed, Usage, unused, leaf, map, array, Entries, size, nodes}
 use Rattle.definitions.specs.Command.{head_of}
 use Rattle.definitions.specs.Place.{past32, ◌≤ˢ◌}
@@ -37,24 +41,24 @@ as_array (array z n e) h = (z, (n, (e, refl)))
 
 -- what they hold stands from the next record on
 
-command_at_lem : (s : List ℕ) (q c : ℕ) → c ≡ command_in s q → (u : Usage) (o : ℕ) → At u s q o → (head_of u).command ≡ c
-command_at_lem s q c e u o r = sym (e ∙ (root_of u s q o r).1.command)
+command_at_lem : (s : List ℕ) (q : ℕ) (k : Kind) → k ≡ kind_of (command_in s q) → (u : Usage) (o : ℕ) → At u s q o → (head_of u).command ≡ command_of k
+command_at_lem s q k e u o r = kind_head k u (e ∙ ap kind_of (root_of u s q o r).1.command)
 
-module _ (s : List ℕ) (q c : ℕ) (command_is : c ≡ command_in s q) (S : Standing s q) where
-  command_of : (head_of S.usage).command ≡ c
-  command_of = command_at_lem s q c command_is S.usage S.offset S.stands
+module _ (s : List ℕ) (q : ℕ) (k : Kind) (kind_is : k ≡ kind_of (command_in s q)) (S : Standing s q) where
+  command_of_usage : {other : Kind} → k ≡ other → (head_of S.usage).command ≡ command_of other
+  command_of_usage e = command_at_lem s q k kind_is S.usage S.offset S.stands ∙ ap command_of e
 
-  pub map_row : (end : ℕ) → c ≡ 3 → Counted s q end → Row s (q + 1) end
+  pub map_row : (end : ℕ) → k ≡ OffsetBase → Counted s q end → Row s (q + 1) end
   unfolding At
   map_row end e C =
-      let m = as_map S.usage (command_of ∙ e) in
+      let m = as_map S.usage (command_of_usage e) in
       let es : Entries = m.1.0 in
       let r : At (map m.0 es) s q S.offset = rw m.1.1 at S.stands in
       record { entries = es; stand = rw add-one r.1; upto = omega (arith, counted_nodes (map m.0 es) S.offset r C); inside = C.inside; few = C.few }
 
-  pub array_room : c ≡ 4 → (q + 1) * 32 + 32 ≤ length s
+  pub array_room : k ≡ DynOffsetBase → (q + 1) * 32 + 32 ≤ length s
   array_room e =
-      let m = as_array S.usage (command_of ∙ e) in
+      let m = as_array S.usage (command_of_usage e) in
       let n : nodes S.usage ≡ suc (nodes m.1.1.0) = ap nodes m.1.1.1 in
       omega (arith, some_node m.1.1.0)
 
@@ -75,12 +79,12 @@ empty_breaks (leaf z k t) n h f = rw (h, f)
 empty_breaks (map z es) n h f = rw (h, f)
 empty_breaks (array z m e) n h f = rw (h, f)
 
-leaf_keeps : (u : Usage) → ((head_of u).command ≡ 0 → ⊥) → ((head_of u).command ≡ 3 → ⊥) → ((head_of u).command ≡ 4 → ⊥) → past32 (size u) ≡ false → (fixed 1 ≤ˢ size u) ≡ true → own u ≡ true
+leaf_keeps : (u : Usage) → 1 ≤ (head_of u).command → (head_of u).command ≤ 2 → past32 (size u) ≡ false → own u ≡ (fixed 1 ≤ˢ size u)
 unfolding own
-leaf_keeps (unused z) n₀ n₃ n₄ h f = absurd (n₀ refl)
-leaf_keeps (leaf z k t) n₀ n₃ n₄ h f = rw (h, f)
-leaf_keeps (map z es) n₀ n₃ n₄ h f = absurd (n₃ refl)
-leaf_keeps (array z m e) n₀ n₃ n₄ h f = absurd (n₄ refl)
+leaf_keeps (unused z) some few h = absurd (omega arith)
+leaf_keeps (leaf z k t) some few h = rw h
+leaf_keeps (map z es) some few h = absurd (omega arith)
+leaf_keeps (array z m e) some few h = absurd (omega arith)
 
 module _ (z : Size) (h : past32 z ≡ false) (f : (fixed 1 ≤ˢ z) ≡ true) where
   map_keeps : (es : Entries) → own (map z es) ≡ following (fixed 0) z es
@@ -93,49 +97,53 @@ module _ (z : Size) (h : past32 z ≡ false) (f : (fixed 1 ≤ˢ z) ≡ true) wh
 
 -- the answers, of whichever usage stands there
 
-module _ (s : List ℕ) (q c : ℕ) (y : Size) (command_is : c ≡ command_in s q) (size_is : y ≡ size_in s q) where
-  command_of_root : (u : Usage) (o : ℕ) → At u s q o → (head_of u).command ≡ c
-  command_of_root = command_at_lem s q c command_is
+module _ (s : List ℕ) (q : ℕ) (k : Kind) (y : Size) (kind_is : k ≡ kind_of (command_in s q)) (size_is : y ≡ size_in s q) where
+  command_of_root : {other : Kind} → k ≡ other → (u : Usage) (o : ℕ) → At u s q o → (head_of u).command ≡ command_of other
+  command_of_root e u o r = command_at_lem s q k kind_is u o r ∙ ap command_of e
 
   size_at_lem : (u : Usage) (o : ℕ) → At u s q o → y ≡ size u
   size_at_lem u o r = size_is ∙ (root_of u s q o r).1.size
 
   module _ (small : past32 y ≡ false) where
-    pub own_unused : c ≡ 0 → Owned s q true
-    own_unused e = record { of = λ u o r. sym (unused_keeps u (command_of_root u o r ∙ e) (rw (size_at_lem u o r) at small)) }
+    pub own_unused : k ≡ Unused → Owned s q true
+    own_unused e = record { of = λ u o r. sym (unused_keeps u (command_of_root e u o r) (rw (size_at_lem u o r) at small)) }
 
     module _ (some : Bool) (some_is : some ≡ (fixed 1 ≤ˢ y)) where
-      pub own_empty : (c ≡ 0 → ⊥) → not some ≡ true → Owned s q false
+      pub own_empty : (k ≡ Unused → ⊥) → some ≡ false → Owned s q some
       own_empty n f = record {
         of = λ u o r.
-            sym (empty_breaks u (λ e. n (sym (command_of_root u o r) ∙ e)) (rw (size_at_lem u o r) at small) (rw (size_at_lem u o r) at (sym some_is ∙ not-true some f)));
+            let none = empty_breaks u (λ e. n (kind_is ∙ ap kind_of ((root_of u s q o r).1.command ∙ e))) (rw (size_at_lem u o r) at small) (rw (size_at_lem u o r) at (sym some_is ∙ f)) in
+            rw (f, none) refl;
       }
 
-      pub own_leaf : (c ≡ 0 → ⊥) → (c ≡ 3 → ⊥) → (c ≡ 4 → ⊥) → not some ≡ false → Owned s q true
-      own_leaf n₀ n₃ n₄ f = record {
+      pub own_leaf : k ≡ StrictlyTyped ⊎ k ≡ DirectAccess → Owned s q some
+      own_leaf typed = record {
         of = λ u o r.
-            let is = sym (command_of_root u o r) in
-            sym (leaf_keeps u (λ e. n₀ (is ∙ e)) (λ e. n₃ (is ∙ e)) (λ e. n₄ (is ∙ e)) (rw (size_at_lem u o r) at small) (rw (size_at_lem u o r) at (sym some_is ∙ not-false some f)));
+            let is : (1 ≤ (head_of u).command) × ((head_of u).command ≤ 2) = elim typed [
+              | inl e ↦ let h = command_of_root e u o r in (omega arith, omega arith)
+              | inr e ↦ let h = command_of_root e u o r in (omega arith, omega arith)
+            ] in
+            some_is ∙ rw (size_at_lem u o r) (sym (leaf_keeps u is.0 is.1 (rw (size_at_lem u o r) at small)));
       }
 
-      pub own_map : (end : ℕ) (b : Bool) → c ≡ 3 → not some ≡ false → Counted s q end → Chained s (q + 1) end y b → Owned s q b
+      pub own_map : (end : ℕ) (b : Bool) → k ≡ OffsetBase → some ≡ true → Counted s q end → Chained s (q + 1) end y b → Owned s q b
       unfolding At
       own_map end b e f C K = record {
         of = λ u o r.
-            let m = as_map u (command_of_root u o r ∙ e) in
+            let m = as_map u (command_of_root e u o r) in
             let z : Size = m.0 in
             let es : Entries = m.1.0 in
             let r' : At (map z es) s q o = rw m.1.1 at r in
             let same_size : y ≡ z = size_at_lem (map z es) o r' in
             let answer : b ≡ following (fixed 0) y es = K.of es (rw add-one r'.1) (omega (arith, counted_nodes (map z es) o r' C)) in
-            rw (m.1.1, map_keeps z (rw same_size at small) (rw same_size at (sym some_is ∙ not-false some f)) es) (answer ∙ ap (λ (x : Size). following (fixed 0) x es) same_size);
+            rw (m.1.1, map_keeps z (rw same_size at small) (rw same_size at (sym some_is ∙ f)) es) (answer ∙ ap (λ (x : Size). following (fixed 0) x es) same_size);
       }
 
-      pub own_array : (n : ℕ) (z : Size) (b : Bool) → c ≡ 4 → not some ≡ false → n ≡ argument_in s q → z ≡ size_in s (q + 1) → b ≡ fills n z → Owned s q b
+      pub own_array : (n : ℕ) (z : Size) (b : Bool) → k ≡ DynOffsetBase → some ≡ true → n ≡ argument_in s q → z ≡ size_in s (q + 1) → b ≡ fills n z → Owned s q b
       unfolding At
       own_array n z b e f stride_is element-is h = record {
         of = λ u o r.
-            let m = as_array u (command_of_root u o r ∙ e) in
+            let m = as_array u (command_of_root e u o r) in
             let y' : Size = m.0 in
             let n' : ℕ = m.1.0 in
             let v : Usage = m.1.1.0 in
@@ -143,5 +151,5 @@ module _ (s : List ℕ) (q c : ℕ) (y : Size) (command_is : c ≡ command_in s 
             let same_size : y ≡ y' = size_at_lem (array y' n' v) o r' in
             let same-stride : n ≡ n' = stride_is ∙ r'.0.argument in
             let same-element : z ≡ size v = (rw add-one at element-is) ∙ (root_of v s (suc q) r'.1.0 r'.1.1).1.size in
-            rw (m.1.1.1, array_keeps y' (rw same_size at small) (rw same_size at (sym some_is ∙ not-false some f)) n' v, ← same-stride, ← same-element) h;
+            rw (m.1.1.1, array_keeps y' (rw same_size at small) (rw same_size at (sym some_is ∙ f)) n' v, ← same-stride, ← same-element) h;
       }

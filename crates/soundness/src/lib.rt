@@ -3,15 +3,13 @@
 
 ghost use Rattle.std.specs.Prelude.{◌≡◌, false};
 ghost use Rattle.definitions.specs.Usage.{fixed};
-ghost use Rattle.definitions.specs.Place.{ends, past32, ◌≤ˢ◌};
+ghost use Rattle.definitions.specs.Place.{past32, ◌≤ˢ◌};
 ghost use Rattle.qptr.specs.Values.{size_of};
-ghost use Rattle.soundness.specs.Own.{follows, fills};
+ghost use Rattle.soundness.specs.Own.{fills, Followed};
 ghost use Rattle.soundness.specs.Standing.{Standing, Row, Counted, Chained, Owned, Tested};
 
-use qptr::MaxSize;
-use records::{argument, command, max_size, nodes, offset};
-
-const MAX32: u64 = 4294967295;
+use qptr::{Kind, MaxSize};
+use records::{argument, kind, max_size, nodes, offset};
 
 // Dynamic, or at least 1. A size is never past 32 bits.
 fn some(z: MaxSize) -> bool
@@ -27,42 +25,19 @@ fn some(z: MaxSize) -> bool
 fn element(stride: u32, z: MaxSize) -> bool
     ensures { result ≡ fills stride (size_of z) }
 {
-    if stride == 0 {
-        return false;
-    }
-    match z {
-        MaxSize::Dynamic => false,
-        MaxSize::Fixed(n) => n == stride,
-    }
+    stride != 0 && z == MaxSize::Fixed(stride)
 }
 
-// Does an entry of size z at o start at `place` or later, and end within 32 bits?
-fn follow(place: MaxSize, o: u32, z: MaxSize) -> bool
-    ensures { result ≡ follows (size_of place) o (size_of z) }
+// The place behind an entry of size z at o; None where it starts before `place`, is empty, or ends past 32 bits.
+fn follow(place: MaxSize, o: u32, z: MaxSize) -> Option<MaxSize>
+    ensures { Followed (size_of place) o (size_of z) result }
 {
-    let start = MaxSize::Fixed(o);
-    if start.lt(place) {
-        return false;
+    if MaxSize::Fixed(o) < place || !some(z) {
+        return None;
     }
     match z {
-        MaxSize::Dynamic => true,
-        MaxSize::Fixed(n) => {
-            if n == 0 {
-                return false;
-            }
-            o as u64 + n as u64 <= MAX32
-        }
-    }
-}
-
-// Where it ends.
-fn end(o: u32, z: MaxSize) -> MaxSize
-    requires { past32 (ends o (size_of z)) ≡ false }
-    ensures { size_of result ≡ ends o (size_of z) }
-{
-    match z {
-        MaxSize::Dynamic => MaxSize::Dynamic,
-        MaxSize::Fixed(n) => MaxSize::Fixed(o + n),
+        MaxSize::Dynamic => Some(MaxSize::Dynamic),
+        MaxSize::Fixed(n) => Some(MaxSize::Fixed(o.checked_add(n)?)),
     }
 }
 
@@ -82,38 +57,32 @@ fn chained(s: &[u8], from: usize, to: usize, map: MaxSize) -> bool
     let mut q = from;
     let mut place = MaxSize::Fixed(0);
     while q < to {
-        let o = offset(s, q);
-        let z = max_size(s, q);
-        if !follow(place, o, z) {
+        let Some(end) = follow(place, offset(s, q), max_size(s, q)) else {
             return false;
-        }
-        place = end(o, z);
+        };
+        place = end;
         q = past(s, q);
     }
-    !map.lt(place)
+    place <= map
 }
 
-// What record q itself must keep.
+// What record q itself must keep. Its kinds are tested one by one: of a match with an arm for each a compiler makes a jump by a table, which
+// not every processor foresees.
 fn own(s: &[u8], q: usize) -> bool
     requires { Standing s.now q }
     ensures { Owned s.now q result }
 {
-    let kind = command(s, q);
     let z = max_size(s, q);
     let has = some(z);
-    if kind == 0 {
+    let k = kind(s, q);
+    if k == Kind::Unused {
         return true;
     }
-    if !has {
-        return false;
+    has && match k {
+        Kind::OffsetBase => chained(s, q + 1, past(s, q), z),
+        Kind::DynOffsetBase => element(argument(s, q), max_size(s, q + 1)),
+        _ => true,
     }
-    if kind == 3 {
-        return chained(s, q + 1, past(s, q), z);
-    }
-    if kind == 4 {
-        return element(argument(s, q), max_size(s, q + 1));
-    }
-    true
 }
 
 // Is the usage at record q sound?
@@ -122,12 +91,10 @@ pub fn sound(s: &[u8], q: usize) -> bool
     ensures { Tested s.now q result }
 {
     let to = past(s, q);
-    let mut i = q;
-    while i < to {
+    for i in q..to {
         if !own(s, i) {
             return false;
         }
-        i = i + 1;
     }
     true
 }

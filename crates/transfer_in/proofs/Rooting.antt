@@ -9,6 +9,10 @@ use lib.ListN.{length}
 use Rattle.definitions.specs.Usage.{Size, Usage, unused, leaf, map, array, Entries, none, nodes, nodes_in, count}
 use Rattle.definitions.specs.Command.{head_of}
 use Rattle.definitions.proofs.Nodes.{some_node}
+use Rattle.qptr.specs.declared.Kind.{Kind}
+use Rattle.qptr.specs.declared.Kind.TheVariants.{OffsetBase, DynOffsetBase}
+use Rattle.qptr.specs.Values.{command_of, kind_of}
+use Rattle.qptr.proofs.Nodes.{kind_head}
 use Rattle.records.specs.Records.{command_in, count_in, argument_in, Cell, cell, with_next, with_child, with_count, with_argument, full, Set}
 use Rattle.records.proofs.Writing.{set_again}
 use Rattle.transfer_in.specs.Loading.{Bare, first_of, Linked, EntriesLinked, Apart, EntriesOf, EntriesTied, Ripe, RipeAt, Tied}
@@ -28,14 +32,17 @@ record MapAt (s : List ℕ) (q k : ℕ) (u : Usage) (o : ℕ) : Type 0 where
   below : Apart entries s (q + 1)
   many : count entries ≡ k
 
-module _ (s : List ℕ) (q : ℕ) {c : ℕ} (command : c ≡ command_in s q) where
-  command_of : (u : Usage) (o : ℕ) → Bare u s q o → c ≡ (head_of u).command
-  command_of u o b = command ∙ ap (λ (x : Cell). x.command) b
+module _ (s : List ℕ) (q : ℕ) {c : Kind} (kind : c ≡ kind_of (command_in s q)) where
+  kind_of_root : (u : Usage) (o : ℕ) → Bare u s q o → c ≡ kind_of (head_of u).command
+  kind_of_root u o b = kind ∙ ap (λ (x : Cell). kind_of x.command) b
 
-  module _ {k : ℕ} (three : c ≡ 3) (argument : k ≡ argument_in s q) where
+  command_of_root : {other : Kind} → c ≡ other → (u : Usage) (o : ℕ) → Bare u s q o → (head_of u).command ≡ command_of other
+  command_of_root e u o b = kind_head c u (kind_of_root u o b) ∙ ap command_of e
+
+  module _ {k : ℕ} (holds_entries : c ≡ OffsetBase) (argument : k ≡ argument_in s q) where
     map_at : (u : Usage) (o : ℕ) → Ripe u s q o → MapAt s q k u o
     map_at u o R =
-        let M = is_map u (sym (command_of u o R.root) ∙ three) in
+        let M = is_map u (command_of_root holds_entries u o R.root) in
         let R' : Ripe (map M.size M.entries) s q o = subst (λ (x : Usage). Ripe x s q o) M.same R in
         record {
           size = M.size;
@@ -103,10 +110,10 @@ module _ (s : List ℕ) (q : ℕ) {c : ℕ} (command : c ≡ command_in s q) whe
             S.others j (λ e. out (omega arith) (omega (arith, some_node u))) ∙ T.kept M.entries M.below M.many j (λ a b. out (omega arith) (omega (arith, ap nodes M.same)));
       }
 
-  module _ (four : c ≡ 4) where
+  module _ (holds_element : c ≡ DynOffsetBase) where
     array_at : (u : Usage) (o : ℕ) → Ripe u s q o → (A : AnArray u) × Ripe (array A.size A.stride A.element) s q o
     array_at u o R =
-        let A = is_array u (sym (command_of u o R.root) ∙ four) in
+        let A = is_array u (command_of_root holds_element u o R.root) in
         (A, subst (λ (x : Usage). Ripe x s q o) A.same R)
 
     element_nodes : (u : Usage) (o : ℕ) → Ripe u s q o → (1 ≤ count_in s (q + 1)) × (nodes u ≡ 1 + count_in s (q + 1))
@@ -143,12 +150,12 @@ module _ (s : List ℕ) (q : ℕ) {c : ℕ} (command : c ≡ command_in s q) whe
             kept = λ u o R j out. S.others j (λ e. out (omega arith) (omega (arith, some_node u)));
           }
 
-  leaf_linked : (u : Usage) (o : ℕ) → (c ≡ 3 → ⊥) → (c ≡ 4 → ⊥) → Ripe u s q o → Linked u s q o
+  leaf_linked : (u : Usage) (o : ℕ) → (c ≡ OffsetBase → ⊥) → (c ≡ DynOffsetBase → ⊥) → Ripe u s q o → Linked u s q o
   unfolding Linked
   leaf_linked (unused z) o n₃ n₄ R = ap (with_next 0) R.root
   leaf_linked (leaf z k t) o n₃ n₄ R = ap (with_next 0) R.root
-  leaf_linked (map z es) o n₃ n₄ R = absurd (n₃ (command_of (map z es) o R.root))
-  leaf_linked (array z n x) o n₃ n₄ R = absurd (n₄ (command_of (array z n x) o R.root))
+  leaf_linked (map z es) o n₃ n₄ R = absurd (n₃ (kind_of_root (map z es) o R.root))
+  leaf_linked (array z n x) o n₃ n₄ R = absurd (n₄ (kind_of_root (array z n x) o R.root))
 
-  pub leaf_tied : (c ≡ 3 → ⊥) → (c ≡ 4 → ⊥) → Tied s q s
+  pub leaf_tied : (c ≡ OffsetBase → ⊥) → (c ≡ DynOffsetBase → ⊥) → Tied s q s
   leaf_tied n₃ n₄ = record { linked = λ u o R. leaf_linked u o n₃ n₄ R; next = λ u o R. ap (λ (x : Cell). x.next) R.root; kept = λ u o R j out. refl }

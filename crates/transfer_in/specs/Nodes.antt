@@ -1,25 +1,16 @@
 -- One node of a stream: its own part, with its offset in front where it is a map's entry.
 -- Assumes nothing.
-use Rattle.std.specs.Prelude.{ℕ, ◌+◌, ◌-◌, ◌^◌, ◌<◌, ◌≤◌, ◌≡◌, List, ◌++◌, eqb, get_or, drop}
+use Rattle.std.specs.Prelude.{ℕ, ◌+◌, ◌-◌, ◌^◌, ◌<◌, ◌≡◌, List, ◌++◌, eqb, get_or, drop}
 use Rattle.definitions.specs.If.{when◌then◌else◌}
 use Rattle.definitions.specs.Usage.{Size, In32, Usage}
-use Rattle.definitions.specs.Command.{head_of, size_width, argument_width}
+use Rattle.definitions.specs.Command.{head_of, argument_width}
 use Rattle.definitions.specs.Stream.{bytes, write_head}
-use Rattle.numbers.specs.Words.{Width, number_at}
+use Rattle.numbers.specs.Words.{number_at}
 use Rattle.records.specs.Records.{size_from}
-
--- a size in w bytes: a flag, and a number behind it
-pub record SizeWidth (w : ℕ) : Type 0 where
-  pub some : 1 ≤ w
-  pub number : Width (w - 1)
 
 -- the size in the w bytes from byte i on
 unfoldable pub size_at : ℕ → List ℕ → ℕ → Size
 size_at w s i = size_from (get_or s i 0) (number_at (w - 1) s (i + 1))
-
--- the bytes of a node's own part: its command, its size and its argument
-abbrev pub own_width : ℕ → ℕ
-own_width c = 1 + size_width c + argument_width c
 
 -- The bytes of the offset in front of the node behind one of command c: behind an array comes its element, which has none, and
 -- behind any other node only an entry can come.

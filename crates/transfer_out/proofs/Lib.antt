@@ -1,4 +1,3 @@
-pub mod Widths
 pub mod Stores
 pub mod OwnStored
 pub mod Lengths

@@ -1,46 +1,48 @@
 -- A node's own bytes, stored one part behind the other.
 -- Assumes nothing.
 use Prim.Native.Nat.{ℕ, ◌+◌, ◌≤◌}
-use mathlib.Core.Path.{◌≡◌, refl, ◌∙◌}
+use mathlib.Core.Path.{◌≡◌, refl}
 use mathlib.Core.List.{List, [], ◌∷◌}
 use native.Mathlib.Omega.{arith}
-use lib.ListN.{length, set}
-use lib.Seq.{sets}
+use lib.ListN.{length}
 use Rattle.definitions.specs.Usage.{Size, Usage, unused, leaf, map, array, size}
-use Rattle.definitions.specs.Command.{Command, command_at, head_of, size_width}
+use Rattle.definitions.specs.Command.{Command, command_at, head_of}
 use Rattle.definitions.specs.Stream.{bytes, write_size, write_head}
-use Rattle.definitions.proofs.Numbers.{bytes_length}
-use Rattle.numbers.specs.Words.{Width, put_at}
-use Rattle.numbers.proofs.Widths.{argument_width_lem}
+use Rattle.numbers.specs.Words.{Width}
+use Rattle.qptr.specs.declared.Kind.{Kind}
+use Rattle.qptr.specs.Values.{command_of, kind_of}
+use Rattle.numbers.specs.Widths.{SizeWidth, own_width}
+use Rattle.numbers.proofs.Widths.{argument_width_lem, kind_size_width, size_length}
 use Rattle.records.specs.Records.{command_in, size_in}
 use Rattle.links.proofs.Stands.{stands_root}
-use Rattle.transfer_out.specs.Nodes.{SizeWidth, own_width, Put}
+use Rattle.transfer_out.specs.Nodes.{Put, Onto}
+use Rattle.transfer_out.specs.declared.Output.{Output}
 use Rattle.transfer_out.specs.Writing.{OwnFitting, ArgumentIs, OwnPut}
-use Rattle.transfer_out.proofs.Stores.{put_more}
-use Rattle.transfer_out.proofs.Widths.{size_length, size_width_lem}
+use Rattle.transfer_out.proofs.Stores.{onto_as, onto_more}
+use Rattle.transfer_out.proofs.Roots.{command_of_root}
 
-pub row_room : {row : Command} (c i : ℕ) {n : ℕ} → row ≡ command_at c → SizeWidth (size_width c) × (i + own_width c ≤ n)
-    → SizeWidth row.size × Width row.argument × (i + 1 + row.size + row.argument ≤ n)
-row_room c i e h = rw e (h.0, argument_width_lem c, omega (arith, h.1))
+row_room : (k : Kind) (i : ℕ) {c n : ℕ} {row : Command} → c ≡ command_of k → row ≡ command_at c → i + own_width (command_of k) ≤ n → SizeWidth row.size × Width row.argument × (i + 1 + row.size + row.argument ≤ n)
+row_room k i ck e room = rw (e, ck) (kind_size_width k, argument_width_lem (command_of k), omega (arith, room))
 
-pub head_stored : (out out₁ out₂ : List ℕ) (i c : ℕ) (z : Size) (a : ℕ) {row : Command} → row ≡ command_at c
-    → out₁ ≡ sets (set out i c) (i + 1) (write_size row.size z)
-    → out₂ ≡ put_at row.argument out₁ (i + 1 + row.size) a
-    → Put (write_head (record { command = c; size = z; argument = a })) out i out₂ (i + 1 + row.size + row.argument)
-unfolding put_at command_at
-head_stored out out₁ out₂ i c z a {row} e e₁ e₂ =
-    let v = row.size in
-    let w = row.argument in
-    let A : Put (c ∷ []) out i (set out i c) (i + 1) = record { stored = refl; behind = refl } in
-    let B : Put (write_size v z) (set out i c) (i + 1) out₁ (i + 1 + v) = record { stored = e₁; behind = omega (arith, size_length v z) } in
-    let C : Put (bytes w a) out₁ (i + 1 + v) out₂ (i + 1 + v + w) = record { stored = e₂; behind = omega (arith, bytes_length w a) } in
-    rw (← e) (put_more (put_more A B) C)
+module _ (k : Kind) {c : ℕ} {row : Command} {o o₁ : Output} (ck : c ≡ command_of k) (e : row ≡ command_at c) (room : o.at + own_width (command_of k) ≤ length o.buffer.now) (A : Onto (Put (c ∷ [])) o o₁) where
+  pub size_room : SizeWidth row.size × (o₁.at + row.size ≤ length o₁.buffer.now)
+  size_room = let R = row_room k o.at ck e room in (R.0, omega (arith, R.2, A.is.behind, A.long))
 
-pub own_room : (s : List ℕ) (q : ℕ) (out : List ℕ) (at c : ℕ) → OwnFitting s q out at → c ≡ command_in s q → SizeWidth (size_width c) × (at + own_width c ≤ length out)
-own_room s q out at c F e =
+  pub argument_room : (z : Size) {o₂ : Output} → Onto (Put (write_size row.size z)) o₁ o₂ → Width row.argument × (o₂.at + row.argument ≤ length o₂.buffer.now)
+  argument_room z B =
+      let R = row_room k o.at ck e room in
+      (R.1, omega (arith, R.0.some, R.2, A.is.behind, A.long, B.is.behind, B.long, size_length row.size z))
+
+pub head_stored : (k : Kind) (z : Size) (a : ℕ) {c : ℕ} {row : Command} {o o₁ o₂ o₃ : Output} → c ≡ command_of k → row ≡ command_at c
+    → Onto (Put (c ∷ [])) o o₁ → Onto (Put (write_size row.size z)) o₁ o₂ → Onto (Put (bytes row.argument a)) o₂ o₃
+    → Onto (Put (write_head (record { command = command_of k; size = z; argument = a }))) o o₃
+unfolding command_at
+head_stored k z a ck e A B C = rw (← ck, ← e) (onto_more (onto_more A B) C)
+
+pub own_room : (s : List ℕ) (q : ℕ) (out : List ℕ) (at : ℕ) (k : Kind) → OwnFitting s q out at → k ≡ kind_of (command_in s q) → at + own_width (command_of k) ≤ length out
+own_room s q out at k F e =
     let P = F.standing in
-    let known = e ∙ (stands_root P.usage s q P.rank P.lo P.hi P.stands).command in
-    rw known (size_width_lem P.usage, F.room)
+    rw (command_of_root P.usage s q k P.rank P.lo P.hi e P.stands) F.room
 
 head_size_lem : (u : Usage) → (head_of u).size ≡ size u
 head_size_lem (unused z) = refl
@@ -48,11 +50,12 @@ head_size_lem (leaf z k t) = refl
 head_size_lem (map z es) = refl
 head_size_lem (array z n e) = refl
 
-pub own_stored : (s : List ℕ) (q : ℕ) (out out' : List ℕ) (at c : ℕ) (z : Size) (a r : ℕ) → Put (write_head (record { command = c; size = z; argument = a })) out at out' r → c ≡ command_in s q → z ≡ size_in s q
-    → ArgumentIs s q a → OwnPut s q out at out' r
-own_stored s q out out' at c z a r H command size-read argument = record {
+pub own_stored : (s : List ℕ) (q : ℕ) (k : Kind) (z : Size) (a : ℕ) {o o' : Output} → Onto (Put (write_head (record { command = command_of k; size = z; argument = a }))) o o' → k ≡ kind_of (command_in s q)
+    → z ≡ size_in s q → ArgumentIs s q a → Onto (OwnPut s q) o o'
+own_stored s q k z a {o} {o'} H kind size-read argument = onto_as (λ (P : Put (write_head (record { command = command_of k; size = z; argument = a })) o.buffer.now o.at o'.buffer.now o'.at). record {
   of = λ u rank lo hi stands.
       let R = stands_root u s q rank lo hi stands in
-      let head : write_head (record { command = c; size = z; argument = a }) ≡ write_head (head_of u) = cc (R.command, R.size, head_size_lem u, argument.of u rank lo hi stands) in
-      rw head at H;
-}
+      let same_command = command_of_root u s q k rank lo hi kind stands in
+      let head : write_head (record { command = command_of k; size = z; argument = a }) ≡ write_head (head_of u) = cc (same_command, R.size, head_size_lem u, argument.of u rank lo hi stands) in
+      rw head at P;
+}) H

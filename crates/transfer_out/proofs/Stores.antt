@@ -1,18 +1,13 @@
--- Runs of stores: two behind one another are one, and what the code stores for a size is its bytes.
+-- Two texts that come one behind the other are one.
 -- Assumes nothing.
-use Prim.Native.Nat.{ℕ, suc, ◌+◌, ◌-◌, ◌≤◌}
+use Prim.Native.Nat.{ℕ, suc, ◌+◌}
 use mathlib.Core.Path.{◌≡◌, ap, sym, ◌∙◌}
 use mathlib.Core.List.{List, [], ◌∷◌, ◌++◌}
-use native.Mathlib.Numerals.{add-one}
 use native.Mathlib.Omega.{arith}
 use lib.ListN.{length, set, length-append}
 use lib.Seq.{sets}
-use Rattle.definitions.specs.Stream.{bytes, write_size}
-use Rattle.qptr.specs.declared.MaxSize.{MaxSize}
-use Rattle.qptr.specs.declared.MaxSize.TheVariants.{Fixed, Dynamic}
-use Rattle.qptr.specs.Values.{size_of}
-use Rattle.numbers.specs.Words.{put_at}
-use Rattle.transfer_out.specs.Nodes.{Put}
+use Rattle.transfer_out.specs.Nodes.{Put, Onto}
+use Rattle.transfer_out.specs.declared.Output.{Output}
 
 pub sets_append : (l : List ℕ) (i : ℕ) (xs ys : List ℕ) → sets l i (xs ++ ys) ≡ sets (sets l i xs) (i + length xs) ys
 sets_append l i [] ys = let e : i ≡ i + 0 = omega arith in ap (λ (k : ℕ). sets l k ys) e
@@ -26,15 +21,15 @@ put_more {text} {more} {out} {at} A B = record {
   behind = omega (arith, A.behind, B.behind, length-append text more);
 }
 
--- a size, as the code stores it: a flag, and a number behind it
+-- what follows in one buffer
 
-module _ (out out' : List ℕ) (i w : ℕ) (some : 1 ≤ w) where
-  flag_and_number : (flag n : ℕ) → out' ≡ put_at (w - 1) (set out i flag) (i + 1) n → out' ≡ sets out i (flag ∷ bytes (w - 1) n)
-  unfolding put_at
-  flag_and_number flag n e = e ∙ ap (λ (k : ℕ). sets (set out i flag) k (bytes (w - 1) n)) (add-one i)
+pub onto_as : {P Q : List ℕ → ℕ → List ℕ → ℕ → Type 0} {o o' : Output} → (P o.buffer.now o.at o'.buffer.now o'.at → Q o.buffer.now o.at o'.buffer.now o'.at) → Onto P o o' → Onto Q o o'
+onto_as f A = record { is = f A.is; long = A.long; same_buffer = A.same_buffer }
 
-  pub store_dynamic : (z : MaxSize) → z ≡ Dynamic → out' ≡ put_at (w - 1) (set out i 0) (i + 1) 0 → out' ≡ sets out i (write_size w (size_of z))
-  store_dynamic z e h = let more : w ≡ suc (w - 1) = omega arith in rw (e, more) (flag_and_number 0 0 h)
+pub onto_then : {P Q R : List ℕ → ℕ → List ℕ → ℕ → Type 0} {o o₁ o₂ : Output}
+    → (P o.buffer.now o.at o₁.buffer.now o₁.at → Q o₁.buffer.now o₁.at o₂.buffer.now o₂.at → R o.buffer.now o.at o₂.buffer.now o₂.at)
+    → Onto P o o₁ → Onto Q o₁ o₂ → Onto R o o₂
+onto_then f A B = record { is = f A.is B.is; long = B.long ∙ A.long; same_buffer = B.same_buffer ∙ A.same_buffer }
 
-  pub store_fixed : (z : MaxSize) (n : ℕ) → z ≡ Fixed n → out' ≡ put_at (w - 1) (set out i 1) (i + 1) n → out' ≡ sets out i (write_size w (size_of z))
-  store_fixed z n e h = let more : w ≡ suc (w - 1) = omega arith in rw (e, more) (flag_and_number 1 n h)
+pub onto_more : {xs ys : List ℕ} {o o₁ o₂ : Output} → Onto (Put xs) o o₁ → Onto (Put ys) o₁ o₂ → Onto (Put (xs ++ ys)) o o₂
+onto_more A B = onto_then put_more A B

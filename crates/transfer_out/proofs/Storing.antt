@@ -5,17 +5,22 @@ use mathlib.Core.Path.{◌≡◌, refl, ap, sym, ◌∙◌, subst}
 use mathlib.Core.List.{List}
 use native.Mathlib.Omega.{arith}
 use lib.ListN.{length, length-append}
-use lib.Seq.{sets}
-use Rattle.definitions.specs.Usage.{Usage, unused, leaf, map, array}
+use Rattle.definitions.specs.Usage.{Usage, unused, leaf, map, array, Entries}
 use Rattle.definitions.specs.Command.{head_of}
 use Rattle.definitions.specs.Stream.{bytes, write_head, write_node, write_entries}
 use Rattle.definitions.proofs.Numbers.{bytes_length}
-use Rattle.numbers.specs.Words.{put, put_at}
+use Rattle.numbers.specs.Words.{Width}
+use Rattle.qptr.specs.declared.Kind.{Kind}
+use Rattle.qptr.specs.declared.Kind.TheVariants.{OffsetBase, DynOffsetBase}
+use Rattle.qptr.specs.Values.{kind_of}
 use Rattle.records.specs.Records.{command_in, next_in, child_in, offset_in}
-use Rattle.transfer_out.specs.Nodes.{own_width, Put}
-use Rattle.transfer_out.specs.Writing.{Fitting, OwnFitting, OwnPut, UsagePut}
-use Rattle.transfer_out.proofs.Widths.{head_length}
-use Rattle.transfer_out.proofs.Stores.{put_more}
+use Rattle.numbers.specs.Widths.{own_width}
+use Rattle.links.specs.Standing.{Row}
+use Rattle.transfer_out.specs.Nodes.{Put, Onto}
+use Rattle.transfer_out.specs.declared.Output.{Output}
+use Rattle.transfer_out.specs.Writing.{Readable, Fitting, OwnFitting, OwnPut, UsagePut}
+use Rattle.numbers.proofs.Widths.{head_length}
+use Rattle.transfer_out.proofs.Stores.{put_more, onto_as, onto_then, onto_more}
 use Rattle.transfer_out.proofs.Writing.{one_writes, Element, element, element_readable, below, Writing, writing_none, writing_done, writing_more, entry_readable, written_done, entry_fits}
 
 own_within : (u : Usage) → own_width (head_of u).command ≤ length (write_node u)
@@ -27,62 +32,77 @@ own_within (array z n e) = let h = head_of (array z n e) in omega (arith, head_l
 pub own_fitting : (s : List ℕ) (q : ℕ) (out : List ℕ) (at : ℕ) → Fitting s q out at → OwnFitting s q out at
 own_fitting s q out at F = record { standing = F.standing; room = omega (arith, F.room, own_within F.standing.usage) }
 
-pub put_one : (s : List ℕ) (q c : ℕ) (out : List ℕ) (at : ℕ) (out' : List ℕ) (r : ℕ) → c ≡ command_in s q → (c ≡ 4 → ⊥) → (c ≡ 3 → ⊥) → OwnPut s q out at out' r → UsagePut s q out at out' r
-put_one s q c out at out' r ec n₄ n₃ O = record { of = λ u rank lo hi h. subst (λ (x : List ℕ). Put x out at out' r) (one_writes u s q c rank lo hi ec n₄ n₃ h) (O.of u rank lo hi h) }
+pub put_one : {s : List ℕ} {q : ℕ} {c : Kind} {o o' : Output} → c ≡ kind_of (command_in s q) → (c ≡ DynOffsetBase → ⊥) → (c ≡ OffsetBase → ⊥) → Onto (OwnPut s q) o o' → Onto (UsagePut s q) o o'
+put_one {s} {q} {c} {o} {o'} ec n₄ n₃ = onto_as λ O. record {
+  of = λ u rank lo hi h. subst (λ (x : List ℕ). Put x o.buffer.now o.at o'.buffer.now o'.at) (one_writes u s q c rank lo hi ec n₄ n₃ h) (O.of u rank lo hi h);
+}
 
 -- an array
 
-module _ (s : List ℕ) (q c x : ℕ) (out : List ℕ) (at : ℕ) (out₁ : List ℕ) (p : ℕ) (ec : c ≡ command_in s q) (e₄ : c ≡ 4) (ex : x ≡ child_in s q) (O : OwnPut s q out at out₁ p) where
-  pub element_fitting : Fitting s q out at → length out₁ ≡ length out → Fitting s x out₁ p
-  element_fitting F len =
+module _ {s : List ℕ} {q : ℕ} {c : Kind} {x : ℕ} {o o₁ : Output} (ec : c ≡ kind_of (command_in s q)) (e₄ : c ≡ DynOffsetBase) (ex : x ≡ child_in s q) (O : Onto (OwnPut s q) o o₁) where
+  pub element_fitting : Fitting s q o.buffer.now o.at → Fitting s x o₁.buffer.now o₁.at
+  element_fitting F =
       let P = F.standing in
       let u = P.usage in
       let E : Element u s q x P.rank P.hi = element u s q c x P.rank P.lo P.hi ec e₄ ex P.stands in
       record {
         standing = element_readable s q c x P ec e₄ ex;
-        room = omega (arith, F.room, (O.of u P.rank P.lo P.hi P.stands).behind, ap length E.writes, length-append (write_head (head_of u)) (write_node E.node));
+        room = omega (arith, F.room, O.long, (O.is.of u P.rank P.lo P.hi P.stands).behind, ap length E.writes, length-append (write_head (head_of u)) (write_node E.node));
       }
 
-  pub put_array : (out₂ : List ℕ) (r : ℕ) → UsagePut s x out₁ p out₂ r → UsagePut s q out at out₂ r
-  put_array out₂ r U = record {
+  pub put_array : {o₂ : Output} → Onto (UsagePut s x) o₁ o₂ → Onto (UsagePut s q) o o₂
+  put_array {o₂} = onto_then (λ (A : OwnPut s q o.buffer.now o.at o₁.buffer.now o₁.at) B. record {
     of = λ u rank lo hi h.
         let E = element u s q c x rank lo hi ec e₄ ex h in
-        subst (λ (t : List ℕ). Put t out at out₂ r) (sym E.writes) (put_more (O.of u rank lo hi h) (U.of E.node rank (suc (rank q)) hi E.stands));
-  }
+        subst (λ (t : List ℕ). Put t o.buffer.now o.at o₂.buffer.now o₂.at) (sym E.writes) (put_more (A.of u rank lo hi h) (B.of E.node rank (suc (rank q)) hi E.stands));
+  }) O
 
 -- a map
 
-unfoldable pub PutFrom : List ℕ → ℕ → List ℕ → ℕ → List ℕ → Type 0
-PutFrom out₀ p₀ out p text = Put text out₀ p₀ out p
+unfoldable pub PutFrom : Output → Output → List ℕ → Type 0
+PutFrom o₀ o text = Onto (Put text) o₀ o
 
-pub put_start : (s : List ℕ) (q c x : ℕ) (outₑ : List ℕ) (at : ℕ) (out : List ℕ) (p : ℕ) → Fitting s q outₑ at → c ≡ command_in s q → c ≡ 3 → x ≡ child_in s q → OwnPut s q outₑ at out p → length out ≡ length outₑ
-    → Writing (PutFrom out p out p) s q x p (length out)
+pub put_start : {s : List ℕ} {q : ℕ} {c : Kind} {x : ℕ} {oₑ o : Output} → Fitting s q oₑ.buffer.now oₑ.at → c ≡ kind_of (command_in s q) → c ≡ OffsetBase → x ≡ child_in s q → Onto (OwnPut s q) oₑ o
+    → Writing (PutFrom o o) s q x o.at (length o.buffer.now)
 unfolding PutFrom
-put_start s q c x outₑ at out p F ec e₃ ex O len =
+put_start {s} {q} {c} {x} {oₑ} {o} F ec e₃ ex O =
     let P = F.standing in
-    writing_none s q c x p (length out) P ec e₃ ex (omega (arith, F.room, (O.of P.usage P.rank P.lo P.hi P.stands).behind)) (record { stored = refl; behind = omega arith })
+    writing_none s q c x o.at (length o.buffer.now) P ec e₃ ex (omega (arith, F.room, O.long, (O.is.of P.usage P.rank P.lo P.hi P.stands).behind))
+    (record { is = record { stored = refl; behind = omega arith }; long = refl; same_buffer = refl })
 
-module _ (s : List ℕ) (q i : ℕ) (out₀ : List ℕ) (p₀ : ℕ) (out : List ℕ) (p : ℕ) (W : Writing (PutFrom out₀ p₀ out p) s q i p₀ (length out₀)) (ne : i ≡ 0 → ⊥) where
-  entry_room : p + 4 + length (write_node (entry_readable s q i p₀ (length out₀) W ne).usage) ≤ length out₀
+module _ {s : List ℕ} {q i : ℕ} (o₀ o : Output) (W : Writing (PutFrom o₀ o) s q i o₀.at (length o₀.buffer.now)) (ne : i ≡ 0 → ⊥) where
+  abbrev entry : Readable s i
+  entry = entry_readable s q i o₀.at (length o₀.buffer.now) W ne
+
+  entry_room : o.at + 4 + length (write_node entry.usage) ≤ length o.buffer.now
   unfolding PutFrom
-  entry_room = omega (arith, (written_done s q i p₀ (length out₀) W ne).behind, entry_fits s q i p₀ (length out₀) W ne)
+  entry_room = let D = written_done s q i o₀.at (length o₀.buffer.now) W ne in omega (arith, D.is.behind, D.long, entry_fits s q i o₀.at (length o₀.buffer.now) W ne)
 
-  pub offset_fits : p + 4 ≤ length out₀
-  offset_fits = omega (arith, entry_room)
+  pub offset_fits : Width 4 × (o.at + 4 ≤ length o.buffer.now)
+  offset_fits = (record { even = refl; small = omega arith }, omega (arith, entry_room))
 
-  pub entry_fitting : (out₁ : List ℕ) → length out₁ ≡ length out → length out ≡ length out₀ → Fitting s i out₁ (p + 4)
-  entry_fitting out₁ len₁ len = record { standing = entry_readable s q i p₀ (length out₀) W ne; room = omega (arith, entry_room) }
+  module _ {o₁ : Output} (n : ℕ) (A : Onto (Put (bytes 4 n)) o o₁) where
+    pub entry_fitting : Fitting s i o₁.buffer.now o₁.at
+    entry_fitting = record { standing = entry; room = omega (arith, entry_room, A.is.behind, A.long, bytes_length 4 n) }
 
-  pub put_next : (out₁ out₂ : List ℕ) (o r i' : ℕ) → o ≡ offset_in s i → out₁ ≡ put out p o → UsagePut s i out₁ (p + 4) out₂ r → i' ≡ next_in s i → Writing (PutFrom out₀ p₀ out₂ r) s q i' p₀ (length out₀)
-  unfolding PutFrom put_at
-  put_next out₁ out₂ o r i' eo e₁ U e =
-      let A : Put (bytes 4 (offset_in s i)) out p out₁ (p + 4) = record { stored = e₁ ∙ ap (λ (x : ℕ). sets out p (bytes 4 x)) eo; behind = omega (arith, bytes_length 4 (offset_in s i)) } in
-      writing_more s q i p₀ (length out₀) W ne i' e (λ text v rank lo hi h done. put_more done (put_more A (U.of v rank lo hi h)))
+    pub put_next : {o₂ : Output} {i' : ℕ} → n ≡ offset_in s i → Onto (UsagePut s i) o₁ o₂ → i' ≡ next_in s i → Writing (PutFrom o₀ o₂) s q i' o₀.at (length o₀.buffer.now)
+    unfolding PutFrom
+    put_next {o₂} {i'} en U e =
+        let A' : Onto (Put (bytes 4 (offset_in s i))) o o₁ = subst (λ (x : ℕ). Onto (Put (bytes 4 x)) o o₁) en A in
+        writing_more s q i o₀.at (length o₀.buffer.now) W ne i' e (λ text v rank lo hi h done. onto_more done (onto_more A' (onto_as (λ (P : UsagePut s i o₁.buffer.now o₁.at o₂.buffer.now o₂.at). P.of v rank lo hi h) U)))
 
-pub put_end : (s : List ℕ) (q i : ℕ) (outₑ : List ℕ) (at : ℕ) (out₀ : List ℕ) (p₀ : ℕ) (out : List ℕ) (p : ℕ) → OwnPut s q outₑ at out₀ p₀ → Writing (PutFrom out₀ p₀ out p) s q i p₀ (length out₀) → i ≡ 0 → UsagePut s q outₑ at out p
+pub put_end : {s : List ℕ} {q i : ℕ} {oₑ : Output} (o₀ o : Output) → Onto (OwnPut s q) oₑ o₀ → Writing (PutFrom o₀ o) s q i o₀.at (length o₀.buffer.now) → i ≡ 0 → Onto (UsagePut s q) oₑ o
 unfolding PutFrom
-put_end s q i outₑ at out₀ p₀ out p O W z = record {
-  of = λ u rank lo hi h.
-      let B = below u s q rank lo hi W.three h in
-      subst (λ (t : List ℕ). Put t outₑ at out p) (sym B.writes) (put_more (O.of u rank lo hi h) (writing_done s q i p₀ (length out₀) W z B.entries rank (suc (rank q)) hi B.row));
-}
+put_end {s} {q} {i} {oₑ} o₀ o O W z =
+    let P = W.standing in
+    let all : (es : Entries) (rank : ℕ → ℕ) (lo hi : ℕ) → Row es s (child_in s q) 0 rank lo hi → Onto (Put (write_entries es)) o₀ o = writing_done s q i o₀.at (length o₀.buffer.now) W z in
+    let D = all W.entries.entries P.rank (suc (P.rank q)) P.hi W.entries.row in
+    record {
+      is = record {
+        of = λ u rank lo hi h.
+            let B = below u s q rank lo hi W.three h in
+            subst (λ (t : List ℕ). Put t oₑ.buffer.now oₑ.at o.buffer.now o.at) (sym B.writes) (put_more (O.is.of u rank lo hi h) (all B.entries rank (suc (rank q)) hi B.row).is);
+      };
+      long = D.long ∙ O.long;
+      same_buffer = D.same_buffer ∙ O.same_buffer;
+    }

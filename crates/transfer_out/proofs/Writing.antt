@@ -10,6 +10,10 @@ use Rattle.definitions.specs.Usage.{Size, Usage, unused, leaf, map, array, Entri
 use Rattle.definitions.specs.Command.{head_of}
 use Rattle.definitions.specs.Stream.{bytes, write_head, write_node, write_entries}
 use Rattle.definitions.proofs.Numbers.{bytes_length}
+use Rattle.qptr.specs.declared.Kind.{Kind}
+use Rattle.qptr.specs.declared.Kind.TheVariants.{OffsetBase, DynOffsetBase}
+use Rattle.qptr.specs.Values.{kind_of}
+use Rattle.qptr.proofs.Nodes.{map_command, array_command}
 use Rattle.records.specs.Records.{command_in, next_in, child_in, offset_in, argument_in}
 use Rattle.links.specs.Standing.{Stands, Row}
 use Rattle.links.specs.Rows.{chain, nodes_at}
@@ -23,12 +27,12 @@ use Rattle.transfer_out.proofs.Roots.{count_nodes}
 
 -- A node alone, an array
 
-pub one_writes : (u : Usage) (s : List ℕ) (q c : ℕ) (rank : ℕ → ℕ) (lo hi : ℕ) → c ≡ command_in s q → (c ≡ 4 → ⊥) → (c ≡ 3 → ⊥) → Stands u s q rank lo hi → write_head (head_of u) ≡ write_node u
+pub one_writes : (u : Usage) (s : List ℕ) (q : ℕ) (c : Kind) (rank : ℕ → ℕ) (lo hi : ℕ) → c ≡ kind_of (command_in s q) → (c ≡ DynOffsetBase → ⊥) → (c ≡ OffsetBase → ⊥) → Stands u s q rank lo hi → write_head (head_of u) ≡ write_node u
 unfolding Stands
 one_writes (unused z) s q c rank lo hi e n₄ n₃ h = refl
 one_writes (leaf z k t) s q c rank lo hi e n₄ n₃ h = refl
-one_writes (map z es) s q c rank lo hi e n₄ n₃ h = absurd (n₃ (e ∙ h.0.command))
-one_writes (array z n x) s q c rank lo hi e n₄ n₃ h = absurd (n₄ (e ∙ h.0.command))
+one_writes (map z es) s q c rank lo hi e n₄ n₃ h = absurd (n₃ (e ∙ ap kind_of h.0.command))
+one_writes (array z n x) s q c rank lo hi e n₄ n₃ h = absurd (n₄ (e ∙ ap kind_of h.0.command))
 
 array_form : (u : Usage) (z : Size) (n : ℕ) (e : Usage) → u ≡ array z n e → (write_node u ≡ write_head (head_of u) ++ write_node e) × (nodes u ≡ suc (nodes e))
 array_form u z n e q = (rw q, rw q)
@@ -40,13 +44,13 @@ pub record Element (u : Usage) (s : List ℕ) (q x : ℕ) (rank : ℕ → ℕ) (
   pub writes : write_node u ≡ write_head (head_of u) ++ write_node node
   pub many : nodes u ≡ suc (nodes node)
 
-pub element : (u : Usage) (s : List ℕ) (q c x : ℕ) (rank : ℕ → ℕ) (lo hi : ℕ) → c ≡ command_in s q → c ≡ 4 → x ≡ child_in s q → Stands u s q rank lo hi → Element u s q x rank hi
+pub element : (u : Usage) (s : List ℕ) (q : ℕ) (c : Kind) (x : ℕ) (rank : ℕ → ℕ) (lo hi : ℕ) → c ≡ kind_of (command_in s q) → c ≡ DynOffsetBase → x ≡ child_in s q → Stands u s q rank lo hi → Element u s q x rank hi
 element u s q c x rank lo hi ec e₄ ex h =
-    let A = array_of u s q rank lo hi (sym ec ∙ e₄) h in
+    let A = array_of u s q rank lo hi (array_command ec e₄) h in
     let W = array_form u (size u) (argument_in s q) A.0 A.1 in
     record { node = A.0; stands = subst (λ (y : ℕ). Stands A.0 s y rank (suc (rank q)) hi) (sym ex) A.2; writes = W.0; many = W.1 }
 
-module _ (s : List ℕ) (q c x : ℕ) (P : Readable s q) (ec : c ≡ command_in s q) (e₄ : c ≡ 4) (ex : x ≡ child_in s q) where
+module _ (s : List ℕ) (q : ℕ) (c : Kind) (x : ℕ) (P : Readable s q) (ec : c ≡ kind_of (command_in s q)) (e₄ : c ≡ DynOffsetBase) (ex : x ≡ child_in s q) where
   abbrev E : Element P.usage s q x P.rank P.hi
   E = element P.usage s q c x P.rank P.lo P.hi ec e₄ ex P.stands
 
@@ -104,12 +108,12 @@ pub record Writing (Done : List ℕ → Type 0) (s : List ℕ) (q i base limit :
   pub room : base + length (write_entries entries.entries) ≤ limit
   pub of : (es : Entries) (rank : ℕ → ℕ) (lo hi : ℕ) → Row es s (child_in s q) 0 rank lo hi → Sofar Done es s i rank hi
 
-pub writing_none : {Done : List ℕ → Type 0} (s : List ℕ) (q c x base limit : ℕ) (P : Readable s q) → c ≡ command_in s q → c ≡ 3 → x ≡ child_in s q → base + length (write_node P.usage) ≤ limit + length (write_head (head_of P.usage))
+pub writing_none : {Done : List ℕ → Type 0} (s : List ℕ) (q : ℕ) (c : Kind) (x base limit : ℕ) (P : Readable s q) → c ≡ kind_of (command_in s q) → c ≡ OffsetBase → x ≡ child_in s q → base + length (write_node P.usage) ≤ limit + length (write_head (head_of P.usage))
     → Done [] → Writing Done s q x base limit
 writing_none s q c x base limit P ec e₃ ex room start =
-    let B = below P.usage s q P.rank P.lo P.hi (sym ec ∙ e₃) P.stands in
+    let B = below P.usage s q P.rank P.lo P.hi (map_command ec e₃) P.stands in
     record {
-      three = sym ec ∙ e₃;
+      three = map_command ec e₃;
       standing = P;
       entries = B;
       room = omega (arith, room, ap length B.writes, length-append (write_head (head_of P.usage)) (write_entries B.entries));

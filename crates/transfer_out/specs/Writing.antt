@@ -5,7 +5,8 @@ use Rattle.definitions.specs.Usage.{Usage, Entries, nodes, count}
 use Rattle.definitions.specs.Command.{head_of, argument_width}
 use Rattle.definitions.specs.Stream.{bytes, write_head, write_node}
 use Rattle.links.specs.Standing.{Stands, Row}
-use Rattle.transfer_out.specs.Nodes.{own_width, Put}
+use Rattle.numbers.specs.Widths.{own_width}
+use Rattle.transfer_out.specs.Nodes.{Put}
 
 -- some usage stands at record q
 pub record Readable (s : List ℕ) (q : ℕ) : Type 0 where

@@ -1,26 +1,17 @@
--- `soundness::own` meets its contract. Each answer is that of the usages with the record's command.
+-- `soundness::own` meets its contract. Each answer is that of the usages of the record's kind.
 use Rattle.soundness.proofs.Rows.{room}
 use Rattle.soundness.proofs.Owning.{map_row, array_room, own_unused, own_empty, own_map, own_array, own_leaf}
 use borrow.Author.Rules.{rules}
 use Rattle.soundness.proofs.own.Goals as goal
 
-pub command-kind-requires : goal.command-kind-requires
-command-kind-requires c = search (room, rules)
-
 pub max_size-z-requires : goal.max_size-z-requires
 max_size-z-requires c = search (room, rules)
 
-pub returns-then-kind-eq0 : goal.returns-then-kind-eq0
-returns-then-kind-eq0 c = search (own_unused, rules)
-
-pub returns-then-not-has : goal.returns-then-not-has
-returns-then-not-has c = search (own_empty, rules)
+pub kind-k-requires : goal.kind-k-requires
+kind-k-requires c = search (room, rules)
 
 pub chained-requires : goal.chained-requires
 chained-requires c = search (map_row, rules)
-
-pub returns-then-kind-eq3 : goal.returns-then-kind-eq3
-returns-then-kind-eq3 c = search (own_map, rules)
 
 pub argument-requires : goal.argument-requires
 argument-requires c = search (room, rules)
@@ -28,8 +19,17 @@ argument-requires c = search (room, rules)
 pub max_size-requires : goal.max_size-requires
 max_size-requires c = search (array_room, rules)
 
-pub returns-then-kind-eq4 : goal.returns-then-kind-eq4
-returns-then-kind-eq4 c = search (own_array, rules)
+pub returns-then-eq : goal.returns-then-eq
+returns-then-eq c = search (own_unused, rules)
 
-pub returns : goal.returns
-returns c = search (own_leaf, rules)
+pub returns-else-has : goal.returns-else-has
+returns-else-has c = search (own_empty, rules)
+
+pub returns-in-OffsetBase : goal.returns-in-OffsetBase
+returns-in-OffsetBase c = search (own_map, rules)
+
+pub returns-in-DynOffsetBase : goal.returns-in-DynOffsetBase
+returns-in-DynOffsetBase c = search (own_array, rules)
+
+pub returns-in_default : goal.returns-in_default
+returns-in_default c = search (own_leaf, rules)

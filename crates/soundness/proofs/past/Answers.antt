@@ -1,13 +1,9 @@
 -- `soundness::past` meets its contract. The record counts the usage's nodes.
-use native.Mathlib.Omega.{arith}
 use Rattle.soundness.proofs.Rows.{room, counted}
 use Rattle.soundness.proofs.past.Goals as goal
 
 pub nodes-requires : goal.nodes-requires
 nodes-requires c = room c.requires
-
-pub overflow_add-result : goal.overflow_add-result
-overflow_add-result c = omega (arith, (counted c.requires c.nodes.result c.nodes.ensures.0).few)
 
 pub returns : goal.returns
 returns c = counted c.requires c.nodes.result c.nodes.ensures.0

@@ -3,8 +3,8 @@ use borrow.Author.Rules.{rules}
 use Rattle.transfer_in.proofs.Widths.{front_array, front_other}
 use Rattle.transfer_in.proofs.front_behind.Goals as goal
 
-pub returns-then-command-eq4 : goal.returns-then-command-eq4
-returns-then-command-eq4 c = search (front_array, rules)
+pub returns-in-DynOffsetBase : goal.returns-in-DynOffsetBase
+returns-in-DynOffsetBase c = search (front_array, rules)
 
-pub returns : goal.returns
-returns c = search (front_other, rules)
+pub returns-in_default : goal.returns-in_default
+returns-in_default c = search (front_other, rules)

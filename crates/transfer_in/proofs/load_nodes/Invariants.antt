@@ -1,5 +1,5 @@
 -- `transfer_in::load_nodes` meets its contract: each turn takes one node out of the bytes that are left.
-use Prim.Native.Nat.{◌-◌, ◌≤◌}
+use Prim.Native.Nat.{◌≤◌}
 use mathlib.Core.Path.{◌≡◌}
 use lib.ListN.{length}
 use Rattle.numbers.specs.Words.{Width}
@@ -8,7 +8,4 @@ use Rattle.transfer_in.proofs.Loading.{Loads}
 use Rattle.transfer_in.proofs.load_nodes.Given as goal
 
 abbrev pub invariant-loop-i : goal.invariant-loop-i
-invariant-loop-i l = Loads l.s l.at l.p l.work l.q l.end l.i l.front × KeptBelow l.q l.initial.work l.work × Width l.front × (l.q ≤ l.i) × (l.i ≤ l.end) × (l.p ≤ length l.s) × (length l.work ≡ length l.initial.work)
-
-abbrev pub decreases-loop-i : goal.decreases-loop-i
-decreases-loop-i l = l.end - l.i
+invariant-loop-i l = Loads l.s l.at l.p l.work l.q l.i-end l.i l.front × KeptBelow l.q l.initial.work l.work × Width l.front × (l.q ≤ l.i) × (l.i ≤ l.i-end) × (l.p ≤ length l.s) × (length l.work ≡ length l.initial.work)

@@ -10,14 +10,14 @@ overflow_add-h c = omega (arith, head_inside c.requires)
 pub bounds-s-h : goal.bounds-s-h
 bounds-s-h c = omega (arith, head_inside c.requires)
 
+pub overflow_add-a : goal.overflow_add-a
+overflow_add-a c = omega (arith, (own_inside c.requires c.of-row.ensures).2)
+
+pub overflow_add-a-2 : goal.overflow_add-a-2
+overflow_add-a-2 c = omega (arith, (own_inside c.requires c.of-row.ensures).2)
+
 pub overflow_add-end : goal.overflow_add-end
-overflow_add-end c = omega (arith, (own_inside c.requires c.of_node-row.ensures).2)
-
-pub overflow_add-end-2 : goal.overflow_add-end-2
-overflow_add-end-2 c = omega (arith, (own_inside c.requires c.of_node-row.ensures).2)
-
-pub overflow_add-end-3 : goal.overflow_add-end-3
-overflow_add-end-3 c = omega (arith, (own_inside c.requires c.of_node-row.ensures).2)
+overflow_add-end c = omega (arith, (own_inside c.requires c.of-row.ensures).2)
 
 pub number-o-requires : goal.number-o-requires
 number-o-requires c = (c.requires.width, omega (arith, head_inside c.requires))
@@ -26,28 +26,15 @@ pub overflow_add-h-2 : goal.overflow_add-h-2
 overflow_add-h-2 c = omega (arith, head_inside c.requires)
 
 pub size-z-requires : goal.size-z-requires
-size-z-requires c = let inside = own_inside c.requires c.of_node-row.ensures in (inside.0, omega (arith, inside.2))
+size-z-requires c = let inside = own_inside c.requires c.of-row.ensures in (inside.0, omega (arith, inside.2))
 
-pub overflow_add-h-3 : goal.overflow_add-h-3
-overflow_add-h-3 c = omega (arith, (own_inside c.requires c.of_node-row.ensures).2)
-
-pub overflow_add-h-4 : goal.overflow_add-h-4
-overflow_add-h-4 c = omega (arith, (own_inside c.requires c.of_node-row.ensures).2)
-
-pub number-a-requires : goal.number-a-requires
-number-a-requires c = let inside = own_inside c.requires c.of_node-row.ensures in (inside.1, inside.2)
-
-pub overflow_cast-c : goal.overflow_cast-c
-overflow_cast-c c =
-    let a = c.args in
-    omega (arith, c.type_inv.s (a.at + a.front))
+pub number-argument-requires : goal.number-argument-requires
+number-argument-requires c = let inside = own_inside c.requires c.of-row.ensures in (inside.1, inside.2)
 
 pub put_record-requires : goal.put_record-requires
-put_record-requires c =
-    let a = c.args in
-    (c.requires.inside, omega (arith, c.type_inv.s (a.at + a.front)))
+put_record-requires c = c.requires.inside
 
 pub returns : goal.returns
 returns c =
-    own_loaded c.requires c.of_node-row.ensures
-    c.number-o.ensures c.size-z.ensures c.number-a.ensures c.put_record.ensures
+    own_loaded c.requires c.of-row.ensures
+    (rw c.from.ensures at c.of.ensures) c.number-o.ensures c.size-z.ensures c.number-argument.ensures c.put_record.ensures

@@ -3,8 +3,8 @@ use borrow.Author.Rules.{rules}
 use Rattle.transfer_in.proofs.Numbers.{size_dynamic, size_fixed}
 use Rattle.transfer_in.proofs.size.Goals as goal
 
-pub returns-then-s-i-eq0 : goal.returns-then-s-i-eq0
-returns-then-s-i-eq0 c = search (size_dynamic, rules)
+pub returns-in-0 : goal.returns-in-0
+returns-in-0 c = search (size_dynamic, rules)
 
-pub returns : goal.returns
-returns c = search (size_fixed, rules)
+pub returns-in_default : goal.returns-in_default
+returns-in_default c = search (size_fixed, rules)

@@ -2,22 +2,18 @@
 -- linked below the record fall at each call.
 use native.Mathlib.Omega.{arith}
 use borrow.Author.Rules.{rules}
-use Rattle.transfer_out.proofs.Roots.{command_byte}
 use Rattle.transfer_out.proofs.Writing.{element_readable, element_fewer, entry_readable, entry_fewer, entry_inside, writing_less}
 use Rattle.transfer_out.proofs.Measuring.{length_one, length_array, array_short, length_start, length_short, length_more, length_end}
 use Rattle.transfer_out.proofs.+written_length.Goals as goal
-
-pub own_width-n-requires : goal.own_width-n-requires
-own_width-n-requires t c = (search rules, search (command_byte, rules))
 
 pub written_length-requires : goal.written_length-requires
 written_length-requires t c = (search (element_fewer, rules), search (element_readable, rules))
 
 pub overflow_add-result : goal.overflow_add-result
-overflow_add-result t c = omega (arith, array_short _ _ _ _ _ _ c.command-c.ensures.0 c.if-c-eq4.true c.child.ensures.0 c.own_width-n.ensures c.written_length.ensures c.requires)
+overflow_add-result t c = omega (arith, array_short _ _ _ _ _ _ c.kind-kind.ensures c.in-DynOffsetBase.is c.child.ensures.0 c.own_width-n.ensures c.written_length.ensures c.requires)
 
-pub returns-then-c-eq4 : goal.returns-then-c-eq4
-returns-then-c-eq4 t c = search (length_array, rules)
+pub returns-in-DynOffsetBase : goal.returns-in-DynOffsetBase
+returns-in-DynOffsetBase t c = search (length_array, rules)
 
 pub loop-p-init : goal.loop-p-init
 loop-p-init t c = search (length_start, rules)
@@ -40,8 +36,8 @@ loop-p-smaller t c = search (writing_less, rules)
 pub loop-p-preserved : goal.loop-p-preserved
 loop-p-preserved t c = search (length_more, rules)
 
-pub returns-then-c-eq3 : goal.returns-then-c-eq3
-returns-then-c-eq3 t c = search (length_end, rules)
+pub returns-after-loop-p : goal.returns-after-loop-p
+returns-after-loop-p t c = search (length_end, rules)
 
-pub returns : goal.returns
-returns t c = search (length_one, rules)
+pub returns-in_default : goal.returns-in_default
+returns-in_default t c = search (length_one, rules)

@@ -1,9 +1,24 @@
--- `transfer_out::own_width` meets its contract: the command table's row is the definitions'.
+-- `transfer_out::own_width` meets its contract: the command table's row is the definitions', whose widths are small.
 use Prim.Native.Nat.{◌+◌}
 use mathlib.Core.Path.{ap, ◌∙◌}
+use native.Mathlib.Omega.{arith}
 use Rattle.definitions.specs.Command.{Command}
-use Rattle.transfer_out.specs.Nodes.{own_width}
+use Rattle.numbers.specs.Widths.{own_width}
+use Rattle.numbers.proofs.Widths.{argument_width_lem, size_width_lem}
 use Rattle.transfer_out.proofs.own_width.Goals as goal
 
+pub overflow_add-result : goal.overflow_add-result
+overflow_add-result c = omega (arith, ap (λ (r : Command). r.size) c.of-row.ensures, (size_width_lem c.command.result).small)
+
+pub overflow_add-result-2 : goal.overflow_add-result-2
+overflow_add-result-2 c =
+    omega (
+      arith,
+      ap (λ (r : Command). r.size) c.of-row.ensures,
+      ap (λ (r : Command). r.argument) c.of-row.ensures,
+      (size_width_lem c.command.result).small,
+      (argument_width_lem c.command.result).small,
+    )
+
 pub returns : goal.returns
-returns c = ap (λ (r : Command). 1 + r.size + r.argument) c.of_node-row.ensures ∙ ap own_width c.command.ensures.0
+returns c = ap (λ (r : Command). 1 + r.size + r.argument) c.of-row.ensures ∙ ap own_width c.command.ensures

@@ -6,8 +6,8 @@ use Rattle.transfer_out.proofs.written_argument.Goals as goal
 pub entries-requires : goal.entries-requires
 entries-requires c = search (map_listed, rules)
 
-pub returns-then-command-eq3 : goal.returns-then-command-eq3
-returns-then-command-eq3 c = search (argument_counted, rules)
+pub returns-in-OffsetBase : goal.returns-in-OffsetBase
+returns-in-OffsetBase c = search (argument_counted, rules)
 
-pub returns : goal.returns
-returns c = search (argument_kept, rules)
+pub returns-in_default : goal.returns-in_default
+returns-in_default c = search (argument_kept, rules)
