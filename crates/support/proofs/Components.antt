@@ -6,6 +6,7 @@ use native.Mathlib.Omega.{arith}
 use mathlib.Core.Path.{◌≡◌, ap, sym, ◌∙◌}
 use mathlib.Core.Bool.{Bool, true, false, ◌||◌}
 use mathlib.Core.List.{List}
+use Rattle.std.specs.Prelude.{Option, Some, None}
 use lib.ListN.{length}
 use Rattle.definitions.specs.Usage.{Size, size}
 use Rattle.definitions.specs.Table.{Setting, Components as Parts, concrete, layout_of}
@@ -14,50 +15,50 @@ use Rattle.definitions.specs.Support.{any_of, component_supports, supports}
 use Rattle.records.specs.Records.{size_in}
 use Rattle.layout.specs.Places.{Known}
 use Rattle.layout.specs.Containing.{containing_from, Next, Finds}
-use Rattle.layout.specs.declared.Containing.{Containing}
-use Rattle.layout.specs.declared.Containing.TheVariants.{In, Nothing}
+use Rattle.layout.specs.declared.Component.{Component}
+use Rattle.layout.specs.declared.Table.{Table}
 use Rattle.layout.proofs.Uses.{component_below, from_start}
 use Rattle.support.specs.Known.{ConcreteAskable}
 use Rattle.support.specs.Answers.{OfEach, InLayout, Supports, ComponentSupports}
 use Rattle.support_memory.proofs.Roots.{size_is}
 
 -- what all of them say is what those from index `from` on say, of a range up to `end`
-pub record AskedFrom (table places : List ℕ) (ty at : ℕ) (s : List ℕ) (q end from : ℕ) : Type 0 where
-  pub is : InLayout table places ty λ st cs. OfEach s q λ u.
+pub record AskedFrom (table : Table) (ty at : ℕ) (s : List ℕ) (q end from : ℕ) : Type 0 where
+  pub is : InLayout table ty λ st cs. OfEach s q λ u.
       component_supports st (supports st) cs at u ≡ any_of (supports st) (containing_from st cs at end from) u
 
-module _ {table places : List ℕ} {ty at : ℕ} {s : List ℕ} {q : ℕ} where
-  pub asked_first : {end : ℕ} {z : Size} → z ≡ size_in s q → end ≡ end_of at z → AskedFrom table places ty at s q end 0
+module _ {table : Table} {ty at : ℕ} {s : List ℕ} {q : ℕ} where
+  pub asked_first : {end : ℕ} {z : Size} → z ≡ size_in s q → end ≡ end_of at z → AskedFrom table ty at s q end 0
   asked_first {end} z e = record {
     is = λ st k b n d cs l u r lo hi a.
         let x : end ≡ end_of at (size u) = e ∙ ap (end_of at) (z ∙ size_is u s q r lo hi a) in
         rw (x, ← from_start st cs at (end_of at (size u)));
   }
 
-  module _ {end from : ℕ} {r : Containing} (h : AskedFrom table places ty at s q end from) (f : Finds table places ty from at end r) where
-    next_is : {v : Containing} → r ≡ v → (st : Setting) → Known table places st → ty < length st.table →
+  module _ {end from : ℕ} {r : Option Component} (h : AskedFrom table ty at s q end from) (f : Finds table ty from at end r) where
+    next_is : {v : Option Component} → r ≡ v → (st : Setting) → Known table st → ty < length st.table →
         (n d : ℕ) (cs : Parts) → layout_of st.table ty ≡ concrete n d cs → Next (containing_from st cs at end) from v
     next_is y st k b n d cs l = rw y at (f.is st k.placed b n d cs l)
 
-    pub none_asked : r ≡ Nothing → ComponentSupports table places ty at s q false
+    pub none_asked : r ≡ None → ComponentSupports table ty at s q false
     none_asked y = record {
       is = λ st k b n d cs l u r lo hi a. sym (h.is st k b n d cs l u r lo hi a ∙ ap (λ (x : List Inside). any_of (supports st) x u) (next_is y st k b n d cs l));
     }
 
-    module _ {c rest next : ℕ} {v : Bool} (y : r ≡ In c rest next) (g : Supports table places c rest s q v) where
+    module _ {c : Component} {v : Bool} (y : r ≡ Some c) (g : Supports table c.ty c.rest s q v) where
       -- the component at the index, and those after it
-      head_says : InLayout table places ty λ st cs. OfEach s q λ u.
-          component_supports st (supports st) cs at u ≡ (v || any_of (supports st) (containing_from st cs at end next) u)
+      head_says : InLayout table ty λ st cs. OfEach s q λ u.
+          component_supports st (supports st) cs at u ≡ (v || any_of (supports st) (containing_from st cs at end c.next) u)
       head_says st k b n d cs l u r lo hi a =
           rw (h.is st k b n d cs l u r lo hi a, (next_is y st k b n d cs l).0, ← g.is st k (omega (arith, component_below f y)) u r lo hi a)
 
-      pub one_asked : v ≡ true → ComponentSupports table places ty at s q true
+      pub one_asked : v ≡ true → ComponentSupports table ty at s q true
       one_asked t = record { is = λ st k b n d cs l u r lo hi a. rw (head_says st k b n d cs l u r lo hi a, t) }
 
-      pub more_asked : v ≡ false → AskedFrom table places ty at s q end next
+      pub more_asked : v ≡ false → AskedFrom table ty at s q end c.next
       more_asked t = record { is = λ st k b n d cs l u r lo hi a. rw (head_says st k b n d cs l u r lo hi a, t) }
 
-    pub next_later : {c rest next : ℕ} → r ≡ In c rest next → ConcreteAskable table places ty s q → from < next
+    pub next_later : {c : Component} → r ≡ Some c → ConcreteAskable table ty s q → from < c.next
     next_later y w =
         let t = w.asks.type in
         (next_is y t.setting t.known t.below w.size w.stride w.parts w.layout).1

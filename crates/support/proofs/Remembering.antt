@@ -1,116 +1,107 @@
 -- What is remembered is true: it is forgotten at first, what is recalled is an answer that was given, and what is remembered anew
 -- is the answer that was just given.
 -- Assumes nothing.
-use Prim.Native.Nat.{ℕ, zero, suc, ◌+◌, ◌*◌, ◌<◌}
+use Prim.Native.Nat.{ℕ, ◌+◌, ◌*◌, ◌<◌}
 use mathlib.Core.Path.{◌≡◌, refl, sym, ◌∙◌}
 use mathlib.Core.Bool.{Bool, true, false}
 use mathlib.Core.List.{List}
-use mathlib.Core.Logic.{◌⊎◌, ⊎_elim}
+use mathlib.Core.Logic.{⊎_elim}
 use native.Mathlib.Omega.{arith}
 use native.Mathlib.Decide.{ℕ_discrete}
-use lib.ListN.{length, get_or, replicate}
+use lib.ListN.{length, replicate}
+use Rattle.std.proofs.lemmas.List.Elements.{All-contains, All-replicate}
 use Rattle.definitions.proofs.Earlier.{accepted}
 use Rattle.records.specs.Records.{Marked}
 use Rattle.support_memory.specs.Nodes.{Unchanged, Child, Below, Blank}
-use Rattle.support_memory.specs.Memory.{tag_of, In, Marks, Recollects, Remembers}
-use Rattle.support_memory.specs.declared.Recalled.{Recalled}
-use Rattle.support_memory.specs.declared.Recalled.TheVariants.{No, Yes}
+use Rattle.support_memory.specs.Memory.{tag_of, Marks, Recollects, Remembers}
+use Rattle.support_memory.specs.declared.Answer.{Answer}
 use Rattle.support_memory.proofs.Marking.{one_tag}
 use Rattle.support_memory.proofs.Staying.{unchanged_none, unchanged_both, unchanged_marked, below_back}
 use Rattle.support.specs.Known.{TypeKnown}
 use Rattle.support.specs.Answers.{Supports}
 use Rattle.support.specs.Memory.{Recalls, Listed, Memory, Kept}
 use Rattle.support.proofs.Staying.{supports_after}
-
-zeros : (n i : ℕ) → ◌≡◌ {A = ℕ} (get_or (replicate n 0) i 0) 0
-zeros zero i = refl
-zeros (suc n) zero = refl
-zeros (suc n) (suc i) = zeros n i
+use Rattle.layout.specs.declared.Table.{Table}
 
 no_tag : (ty : ℕ) (b : Bool) → 0 ≡ tag_of ty b → ⊥
 no_tag ty true e = omega arith
 no_tag ty false e = omega arith
 
 -- a table has few types
-pub type_few : {table places : List ℕ} {ty : ℕ} → TypeKnown table places ty → ty < 1024
-type_few {table} w = omega (arith, w.below, (accepted table w.setting.table w.known.read).few)
+pub type_few : {table : Table} {ty : ℕ} → TypeKnown table ty → ty < 1024
+type_few {table} w = omega (arith, w.below, (accepted table.bytes.now w.setting.table w.known.read).few)
 
 -- what the turns of a loop have left
-pub record Turned (table places s s' d d' : List ℕ) : Type 0 where
-  pub kept : Kept table places s s' d d'
+pub record Turned (table : Table) (s s' : List ℕ) (d d' : List Answer) : Type 0 where
+  pub kept : Kept table s s' d d'
   pub wide : length d' ≡ length d
 
-module _ {table places : List ℕ} where
-  pub kept_none : {s d : List ℕ} → Kept table places s s d d
+module _ {table : Table} where
+  pub kept_none : {s : List ℕ} {d : List Answer} → Kept table s s d d
   kept_none = record { records = unchanged_none; nodes = λ i h. h; list = λ h. h }
 
-  pub kept_both : {s s₁ s₂ d d₁ d₂ : List ℕ} → Kept table places s s₁ d d₁ → Kept table places s₁ s₂ d₁ d₂ → Kept table places s s₂ d d₂
+  pub kept_both : {s s₁ s₂ : List ℕ} {d d₁ d₂ : List Answer} → Kept table s s₁ d d₁ → Kept table s₁ s₂ d₁ d₂ → Kept table s s₂ d d₂
   kept_both A B = record {
     records = unchanged_both A.records B.records;
     nodes = λ i h. B.nodes i (A.nodes i h);
     list = λ h. B.list (A.list h);
   }
 
-  pub memory_after : {s s' d d' : List ℕ} {q : ℕ} → Kept table places s s' d d' → Memory table places s q d → Memory table places s' q d'
+  pub memory_after : {s s' : List ℕ} {d d' : List Answer} {q : ℕ} → Kept table s s' d d' → Memory table s q d → Memory table s' q d'
   memory_after K M = record {
     nodes = λ i h. K.nodes i (M.nodes i (below_back K.records h));
     list = K.list M.list;
   }
 
-  pub turned_none : {s d : List ℕ} → Turned table places s s d d
+  pub turned_none : {s : List ℕ} {d : List Answer} → Turned table s s d d
   turned_none = record { kept = kept_none; wide = refl }
 
-  pub turned_more : {s s₁ s₂ d d₁ d₂ : List ℕ} → Turned table places s s₁ d d₁ → Kept table places s₁ s₂ d₁ d₂ → length d₂ ≡ length d₁ → Turned table places s s₂ d d₂
+  pub turned_more : {s s₁ s₂ : List ℕ} {d d₁ d₂ : List Answer} → Turned table s s₁ d d₁ → Kept table s₁ s₂ d₁ d₂ → length d₂ ≡ length d₁ → Turned table s s₂ d d₂
   turned_more T K w = record { kept = kept_both T.kept K; wide = w ∙ T.wide }
 
   -- of an element or an entry
-  pub memory_part : {s d : List ℕ} {q e : ℕ} → Child s q e → Memory table places s q d → Memory table places s e d
+  pub memory_part : {s : List ℕ} {d : List Answer} {q e : ℕ} → Child s q e → Memory table s q d → Memory table s e d
   memory_part {q = q} {e = e} c M = record { nodes = λ i h. M.nodes i (Below.inside q e i c h); list = M.list }
 
   -- nothing is remembered
 
-  pub blank_memory : (n : ℕ) {s : List ℕ} {q : ℕ} → Blank s q → Memory table places s q (replicate n 0)
+  pub blank_memory : (n : ℕ) {s : List ℕ} {q : ℕ} → Blank s q → Memory table s q (replicate n (record { tag = 0; past = 0 }))
   blank_memory n B = record {
     nodes = λ i h. record { is = λ ty b e. absurd (no_tag ty b (sym (B.tags i h) ∙ e)) };
-    list = record { is = λ ty at i b l h. absurd (no_tag (i * 1024 + ty) b (sym (zeros n (h.place * 2)) ∙ h.tag)) };
+    list = record {
+      is = λ ty at i b l h. absurd (no_tag (i * 1024 + ty) b (sym (All-contains (λ (x : Answer). x.tag ≡ 0) _ _ (All-replicate (λ (x : Answer). x.tag ≡ 0) n (record { tag = 0; past = 0 }) refl) h)));
+    };
   }
 
   -- what is recalled
 
-  module _ {s : List ℕ} {q : ℕ} {d : List ℕ} {ty at : ℕ} (M : Memory table places s q d) where
-    marked_answer : (b : Bool) → Marks ty at s q b → Supports table places ty at s q b
-    marked_answer b m = rw m.past at ((M.nodes q (Below.itself q)).is ty b m.tag)
+  module _ {s : List ℕ} {q : ℕ} {d : List Answer} {ty at : ℕ} {b : Bool} (M : Memory table s q d) where
+    marked_answer : Marks ty at s q b → Supports table ty at s q b
+    marked_answer m = rw m.past at ((M.nodes q (Below.itself q)).is ty b m.tag)
 
-    either_answer : (b : Bool) → ty < 1024 → Marks ty at s q b ⊎ In d ty at q b → Supports table places ty at s q b
-    either_answer b l = ⊎_elim (marked_answer b) (M.list.is ty at q b l)
-
-    module _ {r : Recalled} (l : ty < 1024) (R : Recollects ty at s q d r) where
-      pub recalled_no : r ≡ No → Supports table places ty at s q false
-      recalled_no e = either_answer false l (rw e at R.is)
-
-      pub recalled_yes : r ≡ Yes → Supports table places ty at s q true
-      recalled_yes e = either_answer true l (rw e at R.is)
+    pub recalled : ty < 1024 → Recollects ty at s q d b → Supports table ty at s q b
+    recalled l = ⊎_elim marked_answer (M.list.is ty at q b l)
 
   -- what is remembered anew
 
-  module _ {ty at : ℕ} {s s' : List ℕ} {q : ℕ} {d d' : List ℕ} {b : Bool} (R : Remembers ty at s s' q d d' b) (long : length s' ≡ length s) (g : Supports table places ty at s q b) where
+  module _ {ty at : ℕ} {s s' : List ℕ} {q : ℕ} {d d' : List Answer} {b : Bool} (R : Remembers ty at s s' q d d' b) (long : length s' ≡ length s) (g : Supports table ty at s q b) where
     W : Marked s s' q (tag_of ty b) at
     W = R.node
 
     U : Unchanged s s'
     U = unchanged_marked W long
 
-    own_node : Recalls table places s' q
+    own_node : Recalls table s' q
     own_node = record {
       is = λ t c e.
           let x = one_tag t ty c b (sym W.tag ∙ e) in
           rw (W.past, x.0, x.1) (supports_after U g);
     }
 
-    other_node : (i : ℕ) → (i ≡ q → ⊥) → Recalls table places s i → Recalls table places s' i
+    other_node : (i : ℕ) → (i ≡ q → ⊥) → Recalls table s i → Recalls table s' i
     other_node i ne h = record { is = λ t c e. rw (W.pasts i ne) (supports_after U (h.is t c (sym (W.tags i ne) ∙ e))) }
 
-    listed_anew : Listed table places s d → Listed table places s' d'
+    listed_anew : Listed table s d → Listed table s' d'
     listed_anew h = record {
       is = λ t o i c l e. ⊎_elim
           (λ old. supports_after U (h.is t o i c l old))
@@ -118,7 +109,7 @@ module _ {table places : List ℕ} where
           (R.list.each t o i c l e);
     }
 
-    pub remembered_kept : Kept table places s s' d d'
+    pub remembered_kept : Kept table s s' d d'
     remembered_kept = record {
       records = U;
       nodes = λ i h. elim (ℕ_discrete i q) [ yes e ↦ rw e own_node | no ne ↦ other_node i ne h ];

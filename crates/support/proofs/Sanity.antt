@@ -13,6 +13,7 @@ use Rattle.definitions.specs.Support.{supports, supports_in}
 use Rattle.numbers.specs.Words.{number_at}
 use Rattle.links.specs.Standing.{Stands}
 use Rattle.layout.specs.Places.{Placed}
+use Rattle.layout.specs.declared.Table.{Table}
 use Rattle.support.specs.Known.{Askable}
 
 -- type 0 is a scalar of 4 bytes, and type 1 four of them in a row
@@ -23,11 +24,11 @@ first = 0x20 ∷ bytes 4 4 ++ bytes 4 0
 second : List ℕ
 second = 0x21 ∷ bytes 4 16 ++ bytes 4 0 ++ bytes 4 4 ++ bytes 4 0 ++ bytes 4 4
 
-table : List ℕ
-table = bytes 2 2 ++ first ++ second
-
-places : List ℕ
-places = 2 ∷ 11 ∷ []
+table : Table
+table = record {
+  bytes = record { ref_ptr = (0, 0); now = bytes 2 2 ++ first ++ second };
+  places = record { ref_ptr = (0, 0); now = 2 ∷ 11 ∷ [] };
+}
 
 setting : Setting
 setting = record { table = concrete 4 0 scalar ∷ concrete 16 0 (elements 4 0 4) ∷ [] }
@@ -39,13 +40,13 @@ asked = leaf (fixed 4) true 0
 records_with_it : List ℕ
 records_with_it = bytes 32 0 ++ bytes 2 1 ++ bytes 2 1 ++ bytes 4 0 ++ bytes 4 1 ++ bytes 4 4 ++ bytes 4 0 ++ bytes 4 0 ++ bytes 8 0
 
-stands : (ty : ℕ) → ty < 2 → Placed table setting.table places ty
-unfolding table places setting first second when◌then◌else◌
+stands : (ty : ℕ) → ty < 2 → Placed table setting.table ty
+unfolding table setting first second when◌then◌else◌
 stands zero l = record { kept = omega arith; rest = second; stands = refl; admits = refl }
 stands (suc zero) l = record { kept = omega arith; rest = []; stands = refl; admits = refl }
 stands (suc (suc ty)) l = absurd (omega arith)
 
-askable : Askable table places 1 records_with_it 1
+askable : Askable table 1 records_with_it 1
 unfolding table setting first second asked records_with_it table_of when◌then◌else◌ Stands number_at
 askable = record {
   type = record { setting = setting; known = record { read = refl; placed = stands }; below = omega arith };

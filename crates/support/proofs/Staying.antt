@@ -5,31 +5,33 @@ use Prim.Native.Nat.{ℕ}
 use mathlib.Core.Path.{sym, ◌∙◌}
 use mathlib.Core.Bool.{Bool}
 use mathlib.Core.List.{List}
+use Rattle.std.specs.Prelude.{Result}
 use Rattle.support_memory.specs.Nodes.{Unchanged}
 use Rattle.support_memory.proofs.Staying.{there, back, command_stays, offset_stays, usage_after}
 use Rattle.support.specs.Known.{Askable, ConcreteAskable}
 use Rattle.support.specs.Answers.{Supports, EntrySupported, ItselfSupports, Answers}
 use Rattle.support.specs.Memory.{LeftOpen}
-use Rattle.support.specs.declared.Asked.{Asked}
+use Rattle.support.specs.declared.NotAsked.{NotAsked}
+use Rattle.layout.specs.declared.Table.{Table}
 
 module _ {s s' : List ℕ} (U : Unchanged s s') where
-  module _ {table places : List ℕ} {ty at q : ℕ} where
-    pub supports_after : {r : Bool} → Supports table places ty at s q r → Supports table places ty at s' q r
+  module _ {table : Table} {ty at q : ℕ} where
+    pub supports_after : {r : Bool} → Supports table ty at s q r → Supports table ty at s' q r
     supports_after g = record { is = λ st k b u r lo hi a. g.is st k b u r lo hi (back U u q r lo hi a) }
 
-    pub supports_before : {r : Bool} → Supports table places ty at s' q r → Supports table places ty at s q r
+    pub supports_before : {r : Bool} → Supports table ty at s' q r → Supports table ty at s q r
     supports_before g = record { is = λ st k b u r lo hi a. g.is st k b u r lo hi (there U u q r lo hi a) }
 
-    pub entry_before : {r : Bool} → EntrySupported table places ty at s' q r → EntrySupported table places ty at s q r
+    pub entry_before : {r : Bool} → EntrySupported table ty at s' q r → EntrySupported table ty at s q r
     entry_before g = record { is = λ st k b n d cs l u r lo hi a. rw (← offset_stays U q) (g.is st k b n d cs l u r lo hi (there U u q r lo hi a)) }
 
-    pub itself_before : {r : Bool} → ItselfSupports table places ty at s' q r → ItselfSupports table places ty at s q r
+    pub itself_before : {r : Bool} → ItselfSupports table ty at s' q r → ItselfSupports table ty at s q r
     itself_before g = record { is = λ st k b n d cs l u r lo hi a. g.is st k b n d cs l u r lo hi (there U u q r lo hi a) }
 
-    pub answers_before : {r : Asked} → Answers table places ty at s' q r → Answers table places ty at s q r
+    pub answers_before : {r : Result Bool NotAsked} → Answers table ty at s' q r → Answers table ty at s q r
     answers_before g = record { is = λ st k b u r lo hi a. g.is st k b u r lo hi (there U u q r lo hi a) }
 
-    pub open_after : LeftOpen table places ty at s q → LeftOpen table places ty at s' q
+    pub open_after : LeftOpen table ty at s q → LeftOpen table ty at s' q
     open_after h = record {
       used = λ e. h.used (sym (command_stays U q) ∙ e);
       parts = h.parts;
@@ -37,9 +39,9 @@ module _ {s s' : List ℕ} (U : Unchanged s s') where
       is = λ st k b u r lo hi a. h.is st k b u r lo hi (back U u q r lo hi a);
     }
 
-  module _ {table places : List ℕ} {ty q : ℕ} where
-    abbrev pub asks_after : Askable table places ty s q → Askable table places ty s' q
+  module _ {table : Table} {ty q : ℕ} where
+    abbrev pub asks_after : Askable table ty s q → Askable table ty s' q
     asks_after w = record { type = w.type; usage = usage_after U w.usage }
 
-    pub concrete_after : ConcreteAskable table places ty s q → ConcreteAskable table places ty s' q
+    pub concrete_after : ConcreteAskable table ty s q → ConcreteAskable table ty s' q
     concrete_after w = record { asks = asks_after w.asks; size = w.size; stride = w.stride; parts = w.parts; layout = w.layout }

@@ -4,6 +4,7 @@ use Prim.Native.Nat.{ℕ, ◌<◌}
 use native.Mathlib.Omega.{arith}
 use mathlib.Core.Path.{◌≡◌, refl, ap, sym, ◌∙◌}
 use mathlib.Core.Bool.{true}
+use mathlib.Core.Logic.{◌⊎◌, ⊎_elim}
 use mathlib.Core.List.{List}
 use lib.ListN.{length}
 use Rattle.definitions.specs.Usage.{Usage}
@@ -16,52 +17,50 @@ use Rattle.layout.specs.Places.{Known, InTable, LayoutIs}
 use Rattle.layout.specs.declared.Components.{Components}
 use Rattle.layout.specs.declared.TypeLayout.{TypeLayout}
 use Rattle.layout.specs.declared.TypeLayout.TheVariants.{Concrete, Handle, Failed}
-use Rattle.layout.proofs.Clash.{clash}
+use Rattle.layout.specs.declared.Table.{Table}
+use Rattle.std.proofs.lemmas.Bool.{both_ways}
 use Rattle.support.specs.Known.{TypeKnown, ConcreteType, Askable, ConcreteAskable, ComponentsOf}
 
-module _ {table places : List ℕ} where
-  pub type_in : {ty : ℕ} → TypeKnown table places ty → InTable table places ty
-  type_in w = record { table = w.setting.table; placed = w.known.placed; below = w.below }
+module _ {table : Table} where
+  pub type_in : {ty : ℕ} → TypeKnown table ty → InTable table ty
+  type_in w = record { layouts = w.setting.table; placed = w.known.placed; below = w.below }
 
-  pub one_step : (st : Setting) → Known table places st → (ty at : ℕ) (u : Usage) →
+  pub one_step : (st : Setting) → Known table st → (ty at : ℕ) (u : Usage) →
       supports st ty at u ≡ support_rules st (supports st) ty (layout_of st.table ty) at u
-  one_step st k = supports_is st (accepted table st.table k.read).earlier
+  one_step st k = supports_is st (accepted table.bytes.now st.table k.read).earlier
 
-  pub layout_is : {ty : ℕ} {r v : TypeLayout} → LayoutIs table places ty r → r ≡ v →
-      (st : Setting) → Known table places st → ty < length st.table → layout_of st.table ty ≡ layout_in table v
-  layout_is {ty} l y st k b = sym (l.is st.table (k.placed ty b)) ∙ ap (layout_in table) y
+  pub layout_is : {ty : ℕ} {r v : TypeLayout} → LayoutIs table ty r → r ≡ v →
+      (st : Setting) → Known table st → ty < length st.table → layout_of st.table ty ≡ layout_in table.bytes.now v
+  layout_is {ty} l y st k b = sym (l.is st.table (k.placed ty b)) ∙ ap (layout_in table.bytes.now) y
 
-  pub components_of : {ty n d : ℕ} {r : TypeLayout} {cs : Components} → LayoutIs table places ty r → r ≡ Concrete n d cs → ComponentsOf table places ty cs
+  pub components_of : {ty n d : ℕ} {r : TypeLayout} {cs : Components} → LayoutIs table ty r → r ≡ Concrete n d cs → ComponentsOf table ty cs
   components_of {n = n} {d = d} l y = record { size = n; stride = d; is = rw y at l }
 
   -- a concrete type is no handle, and has not failed
 
-  concrete_clash : {ty : ℕ} {r v : TypeLayout} → ConcreteType table places ty → LayoutIs table places ty r → r ≡ v → is_concrete (layout_in table v) ≡ true
-  concrete_clash {ty} {v = v} w l y =
-      let e : concrete w.size w.stride w.parts ≡ layout_in table v = sym w.layout ∙ layout_is l y w.type.setting w.type.known w.type.below in
+  is_concrete_then : {ty : ℕ} {r v : TypeLayout} → ConcreteType table ty → LayoutIs table ty r → r ≡ v → is_concrete (layout_in table.bytes.now v) ≡ true
+  is_concrete_then {ty} {v = v} w l y =
+      let e : concrete w.size w.stride w.parts ≡ layout_in table.bytes.now v = sym w.layout ∙ layout_is l y w.type.setting w.type.known w.type.below in
       sym (ap is_concrete e)
 
-  pub not_handle : {ty : ℕ} {r : TypeLayout} → ConcreteType table places ty → LayoutIs table places ty r → r ≡ Handle → ⊥
-  not_handle w l y = clash (concrete_clash w l y) refl
+  pub only_concrete : {ty : ℕ} {r : TypeLayout} → ConcreteType table ty → LayoutIs table ty r → (r ≡ Handle) ⊎ (r ≡ Failed) → ⊥
+  only_concrete w l = ⊎_elim (λ y. both_ways _ refl (is_concrete_then w l y)) (λ y. both_ways _ refl (is_concrete_then w l y))
 
-  pub not_failed : {ty : ℕ} {r : TypeLayout} → ConcreteType table places ty → LayoutIs table places ty r → r ≡ Failed → ⊥
-  not_failed w l y = clash (concrete_clash w l y) refl
-
-  pub concrete_type : {ty : ℕ} {s : List ℕ} {q : ℕ} → ConcreteAskable table places ty s q → ConcreteType table places ty
+  pub concrete_type : {ty : ℕ} {s : List ℕ} {q : ℕ} → ConcreteAskable table ty s q → ConcreteType table ty
   concrete_type w = record { type = w.asks.type; size = w.size; stride = w.stride; parts = w.parts; layout = w.layout }
 
   module _ {s : List ℕ} {q ty : ℕ} where
-    pub asks_earlier : {c : ℕ} → Askable table places ty s q → c < ty → Askable table places c s q
+    pub asks_earlier : {c : ℕ} → Askable table ty s q → c < ty → Askable table c s q
     asks_earlier w l = record {
       type = record { setting = w.type.setting; known = w.type.known; below = omega (arith, w.type.below) };
       usage = w.usage;
     }
 
-    pub asks_concrete : {cs : Components} → Askable table places ty s q → ComponentsOf table places ty cs → ConcreteAskable table places ty s q
+    pub asks_concrete : {cs : Components} → Askable table ty s q → ComponentsOf table ty cs → ConcreteAskable table ty s q
     asks_concrete {cs} w p = record {
       asks = w;
       size = p.size;
       stride = p.stride;
-      parts = parts_of table cs;
+      parts = parts_of table.bytes.now cs;
       layout = layout_is p.is refl w.type.setting w.type.known w.type.below;
     }

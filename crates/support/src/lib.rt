@@ -1,30 +1,20 @@
 // What a layout supports: the source's `supports_usage_at_offset`, over a usage's records and a table's bytes.
 #![tactic(auto)]
 
-ghost use Rattle.std.specs.Prelude.{◌≡◌, true, false, ◌&&◌, ◌+◌, ◌*◌, ◌<◌, ◌≤◌, eqb, length};
+ghost use Rattle.std.specs.Prelude.{◌≡◌, true, false, ◌&&◌, ◌+◌, ◌*◌, ◌<◌, ◌≤◌, eqb, length, IfSome, MatchOption};
 ghost use Rattle.definitions.specs.Support.{outside, same_length};
 ghost use Rattle.qptr.specs.Values.{size_of};
 ghost use Rattle.records.specs.Records.{command_in};
 ghost use Rattle.support_memory.specs.Nodes.{Unchanged, Blank};
+ghost use Rattle.support_memory.specs.Memory.{Recollects};
 ghost use Rattle.support.specs.Known.{ConcreteType, Askable, ConcreteAskable, ComponentsOf};
 ghost use Rattle.support.specs.Answers.{WholeLeaf, Supports, ComponentSupports, EntrySupported, EntriesSupported, ElementsSupported, ItselfSupports, Says, Answers};
-ghost use Rattle.support.specs.Memory.{Memory, Kept, LeftOpen, FirstSays, AtOnce, RecallsOf};
+ghost use Rattle.support.specs.Memory.{Memory, Kept, LeftOpen};
 
-use layout::{Components, Containing, TypeLayout, end_of, find_components_containing, layout_of};
-use qptr::MaxSize;
-use records::{argument, child, command, max_size, next, offset};
-use support_memory::{IN_TURNS, LONG_WORDS, Recalled, SHORT_WORDS, forget, recall, remember};
-
-// The last number of 32 bits.
-const MAX: u32 = 4294967295;
-
-// What the first tests say: an answer, or that the components are asked, and then the usage itself.
-#[derive(Clone, Copy)]
-enum First {
-    No,
-    Yes,
-    Open,
-}
+use layout::{Array, Components, Table, TypeLayout, end_of};
+use qptr::{Kind, MaxSize};
+use records::{argument, child, kind, max_size, next, offset};
+use support_memory::{Answer, LONG, SHORT, Seen, forget, recall, remember};
 
 // Is a usage of this size, at this offset, dynamic or past the layout's size?
 fn outside(size: u32, at: u32, usage: MaxSize) -> bool
@@ -40,10 +30,7 @@ fn outside(size: u32, at: u32, usage: MaxSize) -> bool
 fn too_large(size: u32, stride: u32, at: u32, usage: MaxSize) -> bool
     ensures { result ≡ (eqb stride 0 && outside size at (size_of usage)) }
 {
-    if stride == 0 {
-        return outside(size, at, usage);
-    }
-    false
+    stride == 0 && outside(size, at, usage)
 }
 
 // Is the usage at record q a leaf of this type, at offset 0?
@@ -54,14 +41,10 @@ fn is_whole_leaf(ty: u32, at: u32, s: &[u8], q: usize) -> bool
     if at != 0 {
         return false;
     }
-    let kind = command(s, q);
-    if kind == 1 {
-        return ty == argument(s, q);
+    match kind(s, q) {
+        Kind::StrictlyTyped | Kind::DirectAccess => ty == argument(s, q),
+        Kind::Unused | Kind::OffsetBase | Kind::DynOffsetBase => false,
     }
-    if kind == 2 {
-        return ty == argument(s, q);
-    }
-    false
 }
 
 // The array's size against the layout's length (0 = none): dynamic with no length, or whole elements up to the length.
@@ -72,101 +55,88 @@ fn same_length(stride: u32, len: u32, at: u32, size: MaxSize) -> bool
     match size {
         MaxSize::Dynamic => len == 0,
         MaxSize::Fixed(n) => {
-            if n % stride != 0 {
-                return false;
-            }
-            if n == 0 {
-                return false;
-            }
-            (at / stride) as u64 + (n / stride) as u64 == len as u64
+            n % stride == 0
+                && n != 0
+                && u64::from(at / stride) + u64::from(n / stride) == u64::from(len)
         }
     }
 }
 
-// The tests that need no further question. A type that is not concrete supports nothing.
-fn first_tests(table: &[u8], places: &[u32], ty: u32, at: u32, s: &[u8], q: usize) -> First
-    requires { Askable table.now places.now ty s.now q }
-    ensures { FirstSays table.now places.now ty at s.now q result }
+// The tests that need no further question. None of them answers where the components are to be asked, and then the usage itself.
+// A type that is not concrete supports nothing.
+fn first_tests(table: &Table<'_>, ty: u32, at: u32, s: &[u8], q: usize) -> Option<bool>
+    requires { Askable table.now ty s.now q }
+    ensures { MatchOption result (LeftOpen table.now ty at s.now q) (Supports table.now ty at s.now q) }
 {
-    match layout_of(table, places, ty) {
-        TypeLayout::Handle => First::No,
-        TypeLayout::Failed => First::No,
-        TypeLayout::Concrete {
-            size,
-            dyn_stride,
-            ..
-        } => {
-            if command(s, q) == 0 {
-                return First::Yes;
-            }
-            if is_whole_leaf(ty, at, s, q) {
-                return First::Yes;
-            }
-            if too_large(size, dyn_stride, at, max_size(s, q)) {
-                return First::No;
-            }
-            First::Open
-        }
+    let TypeLayout::Concrete {
+        size,
+        dyn_stride,
+        ..
+    } = table.layout_of(ty)
+    else {
+        return Some(false);
+    };
+    if kind(s, q) == Kind::Unused {
+        return Some(true);
     }
+    if is_whole_leaf(ty, at, s, q) {
+        return Some(true);
+    }
+    if too_large(size, dyn_stride, at, max_size(s, q)) {
+        return Some(false);
+    }
+    None
 }
+
+// A question is of a type at an offset, about the usage at record q. Each question that another leads to changes another part of it, so
+// they are passed one by one.
 
 // Does some component that contains the usage at record q support it at the remaining offset?
 #[cycle(support)]
 fn any_component_supports(
-    table: &[u8],
-    places: &[u32],
+    table: &Table<'_>,
     ty: u32,
     at: u32,
     s: &mut [u8],
     q: usize,
-    answers: &mut [u32],
+    answers: &mut [Answer],
 ) -> bool
-    requires concrete_askable { ConcreteAskable table.now places.now ty s.old q }
-    requires memory { Memory table.now places.now s.old q answers.old }
-    ensures component_supports { ComponentSupports table.now places.now ty at s.old q result }
-    ensures kept { Kept table.now places.now s.old s.new answers.old answers.new }
+    requires concrete_askable { ConcreteAskable table.now ty s.old q }
+    requires memory { Memory table.now s.old q answers.old }
+    ensures component_supports { ComponentSupports table.now ty at s.old q result }
+    ensures kept { Kept table.now s.old s.new answers.old answers.new }
 {
     let end = end_of(at, max_size(s, q));
     let mut from = 0;
-    loop {
-        match find_components_containing(table, places, ty, from, at, end) {
-            Containing::Nothing => {
-                return false;
-            }
-            Containing::In {
-                ty: component,
-                rest,
-                next,
-            } => {
-                if supports_inside(table, places, component, rest, s, q, answers, true) {
-                    return true;
-                }
-                from = next;
-            }
+    while let Some(component) = table.find_components_containing(ty, from, at, end) {
+        if supports_inside(table, component.ty, component.rest, s, q, answers, true) {
+            return true;
         }
+        from = component.next;
     }
+    false
 }
 
-// Is every entry of the map at record q supported, at the sum of both offsets?
+// Is every entry of the map at record q supported, at the sum of both offsets? The entries are linked by numbers in the bytes that each
+// question writes to, so no iterator can hold these.
 #[cycle(support)]
 fn entries_supported(
-    table: &[u8],
-    places: &[u32],
+    table: &Table<'_>,
     ty: u32,
     at: u32,
     s: &mut [u8],
     q: usize,
-    answers: &mut [u32],
+    answers: &mut [Answer],
 ) -> bool
-    requires concrete_askable { ConcreteAskable table.now places.now ty s.old q }
-    requires memory { Memory table.now places.now s.old q answers.old }
+    requires concrete_askable { ConcreteAskable table.now ty s.old q }
+    requires memory { Memory table.now s.old q answers.old }
     requires q_value { command_in s.old q ≡ 3 }
-    ensures entries_supported { EntriesSupported table.now places.now ty at s.old q result }
-    ensures kept { Kept table.now places.now s.old s.new answers.old answers.new }
+    ensures entries_supported { EntriesSupported table.now ty at s.old q result }
+    ensures kept { Kept table.now s.old s.new answers.old answers.new }
 {
     let mut e = child(s, q);
     while e != 0 {
-        if !entry_supported(table, places, ty, at, s, e, answers) {
+        if !entry_supported(table, ty, at, s, e, answers) {
             return false;
         }
         e = next(s, e);
@@ -177,310 +147,263 @@ fn entries_supported(
 // By this whole layout if the sum is 0, else by a containing component.
 #[cycle(support)]
 fn entry_supported(
-    table: &[u8],
-    places: &[u32],
+    table: &Table<'_>,
     ty: u32,
     at: u32,
     s: &mut [u8],
     e: usize,
-    answers: &mut [u32],
+    answers: &mut [Answer],
 ) -> bool
-    requires concrete_askable { ConcreteAskable table.now places.now ty s.old e }
-    requires memory { Memory table.now places.now s.old e answers.old }
-    ensures entry_supported { EntrySupported table.now places.now ty at s.old e result }
-    ensures kept { Kept table.now places.now s.old s.new answers.old answers.new }
+    requires concrete_askable { ConcreteAskable table.now ty s.old e }
+    requires memory { Memory table.now s.old e answers.old }
+    ensures entry_supported { EntrySupported table.now ty at s.old e result }
+    ensures kept { Kept table.now s.old s.new answers.old answers.new }
 {
-    let o = offset(s, e);
-    if MAX - at < o {
+    let Some(sum) = at.checked_add(offset(s, e)) else {
         return false;
-    }
-    let sum = at + o;
-    supports_inside(table, places, ty, sum, s, e, answers, sum == 0)
+    };
+    supports_inside(table, ty, sum, s, e, answers, sum == 0)
 }
 
 // Do elements of this stride, type and length support the array at record q? Its stride has to be theirs.
 #[cycle(support)]
 fn elements_supported(
-    table: &[u8],
-    places: &[u32],
-    stride: u32,
-    elem: u32,
-    len: u32,
+    table: &Table<'_>,
+    array: Array,
     at: u32,
     s: &mut [u8],
     q: usize,
-    answers: &mut [u32],
+    answers: &mut [Answer],
 ) -> bool
-    requires askable { Askable table.now places.now elem s.old q }
-    requires memory { Memory table.now places.now s.old q answers.old }
-    requires stride_nonzero { (0 < stride) × (command_in s.old q ≡ 4) }
-    ensures elements_supported { ElementsSupported table.now places.now stride elem len at s.old q result }
-    ensures kept { Kept table.now places.now s.old s.new answers.old answers.new }
+    requires askable { Askable table.now array.elem s.old q }
+    requires memory { Memory table.now s.old q answers.old }
+    requires stride_nonzero { (0 < array.stride) × (command_in s.old q ≡ 4) }
+    ensures elements_supported { ElementsSupported table.now array at s.old q result }
+    ensures kept { Kept table.now s.old s.new answers.old answers.new }
 {
+    let stride = array.stride;
     if stride != argument(s, q) {
         return false;
     }
     if at % stride != 0 {
         return false;
     }
-    if !same_length(stride, len, at, max_size(s, q)) {
+    if !same_length(stride, array.len, at, max_size(s, q)) {
         return false;
     }
     let e = child(s, q);
-    supports_inside(table, places, elem, 0, s, e, answers, true)
+    supports_inside(table, array.elem, 0, s, e, answers, true)
 }
 
 // The components of a concrete layout.
-fn components_of(table: &[u8], places: &[u32], ty: u32) -> Components
-    requires { ConcreteType table.now places.now ty }
-    ensures { ComponentsOf table.now places.now ty result }
+fn components_of(table: &Table<'_>, ty: u32) -> Components
+    requires { ConcreteType table.now ty }
+    ensures { ComponentsOf table.now ty result }
 {
-    match layout_of(table, places, ty) {
-        TypeLayout::Handle => Components::Scalar,
-        TypeLayout::Failed => Components::Scalar,
+    match table.layout_of(ty) {
         TypeLayout::Concrete { components, .. } => components,
+        TypeLayout::Handle | TypeLayout::Failed => unreachable!(),
     }
 }
 
 // What is asked once no component supports the usage at record q, by its kind: only elements support an array.
 #[cycle(support)]
 fn itself_supports(
-    table: &[u8],
-    places: &[u32],
+    table: &Table<'_>,
     ty: u32,
     at: u32,
     s: &mut [u8],
     q: usize,
-    answers: &mut [u32],
+    answers: &mut [Answer],
 ) -> bool
-    requires concrete_askable { ConcreteAskable table.now places.now ty s.old q }
-    requires memory { Memory table.now places.now s.old q answers.old }
+    requires concrete_askable { ConcreteAskable table.now ty s.old q }
+    requires memory { Memory table.now s.old q answers.old }
     requires fact { command_in s.old q ≡ 0 → ⊥ }
-    ensures itself_supports { ItselfSupports table.now places.now ty at s.old q result }
-    ensures kept { Kept table.now places.now s.old s.new answers.old answers.new }
+    ensures itself_supports { ItselfSupports table.now ty at s.old q result }
+    ensures kept { Kept table.now s.old s.new answers.old answers.new }
 {
-    let kind = command(s, q);
-    if kind == 3 {
-        return entries_supported(table, places, ty, at, s, q, answers);
-    }
-    if kind != 4 {
-        return false;
-    }
-    match components_of(table, places, ty) {
-        Components::Scalar => false,
-        Components::Fields { .. } => false,
-        Components::Elements { stride, elem, len } => {
-            elements_supported(table, places, stride, elem, len, at, s, q, answers)
-        }
+    match kind(s, q) {
+        Kind::Unused | Kind::StrictlyTyped | Kind::DirectAccess => false,
+        Kind::OffsetBase => entries_supported(table, ty, at, s, q, answers),
+        Kind::DynOffsetBase => match components_of(table, ty) {
+            Components::Scalar | Components::Fields(_) => false,
+            Components::Elements(array) => elements_supported(table, array, at, s, q, answers),
+        },
     }
 }
 
 // What is left open: the components are asked, and then, of the whole layout, the usage itself.
 #[cycle(support)]
 fn supports_past_tests(
-    table: &[u8],
-    places: &[u32],
+    table: &Table<'_>,
     ty: u32,
     at: u32,
     s: &mut [u8],
     q: usize,
-    answers: &mut [u32],
+    answers: &mut [Answer],
     whole: bool,
 ) -> bool
-    requires concrete_askable { ConcreteAskable table.now places.now ty s.old q }
-    requires memory { Memory table.now places.now s.old q answers.old }
-    requires left_open { whole ≡ true → LeftOpen table.now places.now ty at s.old q }
-    ensures says { Says table.now places.now ty at s.old q whole result }
-    ensures kept { Kept table.now places.now s.old s.new answers.old answers.new }
+    requires concrete_askable { ConcreteAskable table.now ty s.old q }
+    requires memory { Memory table.now s.old q answers.old }
+    requires left_open { whole ≡ true → LeftOpen table.now ty at s.old q }
+    ensures says { Says table.now ty at s.old q whole result }
+    ensures kept { Kept table.now s.old s.new answers.old answers.new }
 {
-    if any_component_supports(table, places, ty, at, s, q, answers) {
-        return true;
-    }
-    if !whole {
-        return false;
-    }
-    itself_supports(table, places, ty, at, s, q, answers)
+    any_component_supports(table, ty, at, s, q, answers)
+        || whole && itself_supports(table, ty, at, s, q, answers)
 }
 
 // Answers of the whole layout are remembered, those of its components alone are not.
-fn recall_whole(ty: u32, at: u32, s: &[u8], q: usize, answers: &[u32], whole: bool) -> Recalled
+fn recall_whole(
+    ty: u32,
+    at: u32,
+    s: &[u8],
+    q: usize,
+    answers: &[Answer],
+    whole: bool,
+) -> Option<bool>
     requires { (ty < 1024) × (q < 65536) × (q * 32 + 32 ≤ length s.now) }
-    ensures { RecallsOf ty at s.now q answers.now whole result }
+    ensures { IfSome result (λ yes. (whole ≡ true) × Recollects ty at s.now q answers.now yes) }
 {
     if whole {
-        return recall(ty, at, s, q, answers);
+        recall(ty, at, s, q, answers)
+    } else {
+        None
     }
-    Recalled::Nothing
 }
 
 // What is left open is recalled, or asked and remembered. All questions inside of others come here, so that the compiler makes one frame
 // of this function and those it goes through, and types nested deep take little stack.
 #[cycle(support)]
 fn supports_or_recalls(
-    table: &[u8],
-    places: &[u32],
+    table: &Table<'_>,
     ty: u32,
     at: u32,
     s: &mut [u8],
     q: usize,
-    answers: &mut [u32],
+    answers: &mut [Answer],
     whole: bool,
 ) -> bool
-    requires concrete_askable { ConcreteAskable table.now places.now ty s.old q }
-    requires memory { Memory table.now places.now s.old q answers.old }
-    requires left_open { whole ≡ true → LeftOpen table.now places.now ty at s.old q }
-    ensures says { Says table.now places.now ty at s.old q whole result }
-    ensures kept { Kept table.now places.now s.old s.new answers.old answers.new }
+    requires concrete_askable { ConcreteAskable table.now ty s.old q }
+    requires memory { Memory table.now s.old q answers.old }
+    requires left_open { whole ≡ true → LeftOpen table.now ty at s.old q }
+    ensures says { Says table.now ty at s.old q whole result }
+    ensures kept { Kept table.now s.old s.new answers.old answers.new }
 {
-    match recall_whole(ty, at, s, q, answers, whole) {
-        Recalled::No => false,
-        Recalled::Yes => true,
-        Recalled::Nothing => {
-            let yes = supports_past_tests(table, places, ty, at, s, q, answers, whole);
-            if !whole {
-                return yes;
-            }
-            remember(ty, at, s, q, answers, yes);
-            yes
-        }
+    if let Some(yes) = recall_whole(ty, at, s, q, answers, whole) {
+        return yes;
     }
+    let yes = supports_past_tests(table, ty, at, s, q, answers, whole);
+    if !whole {
+        return yes;
+    }
+    remember(ty, at, s, q, answers, yes);
+    yes
 }
 
 // The first tests are of the whole layout; its components alone are left open.
-fn test_whole(
-    table: &[u8],
-    places: &[u32],
-    ty: u32,
-    at: u32,
-    s: &[u8],
-    q: usize,
-    whole: bool,
-) -> First
-    requires { Askable table.now places.now ty s.now q }
-    ensures { AtOnce table.now places.now ty at s.now q whole result }
+fn test_whole(table: &Table<'_>, ty: u32, at: u32, s: &[u8], q: usize, whole: bool) -> Option<bool>
+    requires { Askable table.now ty s.now q }
+    ensures { MatchOption result (whole ≡ true → LeftOpen table.now ty at s.now q) (λ yes. (whole ≡ true) × Supports table.now ty at s.now q yes) }
 {
     if whole {
-        return first_tests(table, places, ty, at, s, q);
+        first_tests(table, ty, at, s, q)
+    } else {
+        None
     }
-    First::Open
 }
 
 // A question inside of another, of the whole layout or of its components alone.
 #[cycle(support)]
 fn supports_inside(
-    table: &[u8],
-    places: &[u32],
+    table: &Table<'_>,
     ty: u32,
     at: u32,
     s: &mut [u8],
     q: usize,
-    answers: &mut [u32],
+    answers: &mut [Answer],
     whole: bool,
 ) -> bool
-    requires askable { Askable table.now places.now ty s.old q }
-    requires memory { Memory table.now places.now s.old q answers.old }
-    requires concrete_askable { whole ≡ false → ConcreteAskable table.now places.now ty s.old q }
-    ensures says { Says table.now places.now ty at s.old q whole result }
-    ensures kept { Kept table.now places.now s.old s.new answers.old answers.new }
+    requires askable { Askable table.now ty s.old q }
+    requires memory { Memory table.now s.old q answers.old }
+    requires concrete_askable { whole ≡ false → ConcreteAskable table.now ty s.old q }
+    ensures says { Says table.now ty at s.old q whole result }
+    ensures kept { Kept table.now s.old s.new answers.old answers.new }
 {
-    match test_whole(&*table, &*places, ty, at, s, q, whole) {
-        First::No => false,
-        First::Yes => true,
-        First::Open => { supports_or_recalls(&*table, &*places, ty, at, s, q, answers, whole) }
+    match test_whole(table, ty, at, s, q, whole) {
+        Some(yes) => yes,
+        None => supports_or_recalls(table, ty, at, s, q, answers, whole),
     }
 }
 
-// Has a short list some places for each of these nodes and each type that can be asked, up to ty? Nothing is promised, since a short
-// list and a long one give the same answers.
-fn asks_few(nodes: usize, ty: u32) -> bool {
-    if 8 < nodes {
-        return false;
-    }
-    ty < 8
-}
-
-// With a list of answers, short or long.
-fn supports_with_few(table: &[u8], places: &[u32], ty: u32, at: u32, s: &mut [u8], q: usize) -> bool
-    requires askable { Askable table.now places.now ty s.old q }
-    requires blank { Blank s.old q }
-    requires left_open { LeftOpen table.now places.now ty at s.old q }
-    ensures supports { Supports table.now places.now ty at s.old q result }
-    ensures unchanged { Unchanged s.old s.new }
-{
-    let mut answers = [0u32; SHORT_WORDS];
-    supports_or_recalls(table, places, ty, at, s, q, &mut answers, true)
-}
-
-fn supports_with_many(
-    table: &[u8],
-    places: &[u32],
+// What is left open is asked with a list of N answers.
+fn supports_with<const N: usize>(
+    table: &Table<'_>,
     ty: u32,
     at: u32,
     s: &mut [u8],
     q: usize,
 ) -> bool
-    requires askable { Askable table.now places.now ty s.old q }
+    requires few { N ≤ LONG }
+    requires askable { Askable table.now ty s.old q }
     requires blank { Blank s.old q }
-    requires left_open { LeftOpen table.now places.now ty at s.old q }
-    ensures supports { Supports table.now places.now ty at s.old q result }
+    requires left_open { LeftOpen table.now ty at s.old q }
+    ensures supports { Supports table.now ty at s.old q result }
     ensures unchanged { Unchanged s.old s.new }
 {
-    let mut answers = [0u32; LONG_WORDS];
-    supports_or_recalls(table, places, ty, at, s, q, &mut answers, true)
+    let mut answers = [Answer::NONE; N];
+    supports_or_recalls(table, ty, at, s, q, &mut answers, true)
+}
+
+// With a list as long as what was seen asks for: none if no question comes back in turns, a short one if it has some places for each node
+// and each type that can be asked, up to ty. Nothing is promised of the choice, since with any list the same is supported.
+fn supports_blank(table: &Table<'_>, ty: u32, at: u32, s: &mut [u8], q: usize, seen: Seen) -> bool
+    requires askable { Askable table.now ty s.old q }
+    requires blank { Blank s.old q }
+    requires left_open { LeftOpen table.now ty at s.old q }
+    ensures supports { Supports table.now ty at s.old q result }
+    ensures unchanged { Unchanged s.old s.new }
+{
+    if !seen.in_turns {
+        return supports_with::<0>(table, ty, at, s, q);
+    }
+    if seen.nodes <= 8 && ty < 8 {
+        return supports_with::<SHORT>(table, ty, at, s, q);
+    }
+    supports_with::<LONG>(table, ty, at, s, q)
 }
 
 // Does the type support the usage at record q, at this offset? What its nodes remember of other questions is forgotten first.
-pub fn supports_usage_at_offset(
-    table: &[u8],
-    places: &[u32],
-    ty: u32,
-    at: u32,
-    s: &mut [u8],
-    q: usize,
-) -> bool
-    requires { Askable table.now places.now ty s.old q }
-    ensures supports { Supports table.now places.now ty at s.old q result }
+pub fn supports_usage_at_offset(table: &Table<'_>, ty: u32, at: u32, s: &mut [u8], q: usize) -> bool
+    requires { Askable table.now ty s.old q }
+    ensures supports { Supports table.now ty at s.old q result }
     ensures unchanged { Unchanged s.old s.new }
 {
-    match first_tests(table, places, ty, at, s, q) {
-        First::No => false,
-        First::Yes => true,
-        First::Open => {
+    match first_tests(table, ty, at, s, q) {
+        Some(yes) => yes,
+        None => {
             let seen = forget(s, q);
-            if seen < IN_TURNS {
-                let mut answers = [0u32; 1];
-                return supports_or_recalls(table, places, ty, at, s, q, &mut answers, true);
-            }
-            if asks_few(seen % IN_TURNS, ty) {
-                return supports_with_few(table, places, ty, at, s, q);
-            }
-            supports_with_many(table, places, ty, at, s, q)
+            supports_blank(table, ty, at, s, q, seen)
         }
     }
 }
 
-// The answer of a type: one that is a handle, or whose layout failed, is not asked.
-#[derive(Clone, Copy)]
-pub enum Asked {
-    No,
-    Yes,
+// Why a type is not asked: it is a handle, or its layout failed.
+#[derive(Clone, Copy, PartialEq, Eq)]
+pub enum NotAsked {
     Handle,
     Failed,
 }
 
-pub fn ask(table: &[u8], places: &[u32], ty: u32, at: u32, s: &mut [u8], q: usize) -> Asked
-    requires { Askable table.now places.now ty s.old q }
-    ensures answers { Answers table.now places.now ty at s.old q result }
+// The answer of a type.
+pub fn ask(table: &Table<'_>, ty: u32, at: u32, s: &mut [u8], q: usize) -> Result<bool, NotAsked>
+    requires { Askable table.now ty s.old q }
+    ensures answers { Answers table.now ty at s.old q result }
     ensures unchanged { Unchanged s.old s.new }
 {
-    match layout_of(table, places, ty) {
-        TypeLayout::Handle => Asked::Handle,
-        TypeLayout::Failed => Asked::Failed,
-        TypeLayout::Concrete { .. } => {
-            if supports_usage_at_offset(table, places, ty, at, s, q) {
-                return Asked::Yes;
-            }
-            Asked::No
-        }
+    match table.layout_of(ty) {
+        TypeLayout::Handle => Err(NotAsked::Handle),
+        TypeLayout::Failed => Err(NotAsked::Failed),
+        TypeLayout::Concrete { .. } => Ok(supports_usage_at_offset(table, ty, at, s, q)),
     }
 }

@@ -3,4 +3,3 @@ pub mod Staying
 pub mod Linked
 pub mod Forgetting
 pub mod Marking
-pub mod Empties

@@ -1,15 +1,20 @@
 -- A usage is read from its root on, so its record says its kind and its size.
 -- Assumes nothing.
-use Rattle.std.proofs.Common.{◌≡◌, ℕ, ◌≤◌, Bool, true, false, List, arith}
+use Rattle.std.proofs.Common.{◌≡◌, ℕ, ◌≤◌, Bool, true, false, List, sym, ap, ◌∙◌, arith}
 use Rattle.definitions.specs.Usage.{Size, Usage, unused, leaf, map, array, Entries, size}
 use Rattle.definitions.specs.Command.{head_of}
 use Rattle.records.specs.Records.{command_in, size_in}
 use Rattle.links.specs.Standing.{Stands}
 use Rattle.links.proofs.Stands.{stands_root}
+use Rattle.qptr.specs.Values.{command_of, kind_of}
+use Rattle.qptr.specs.declared.Kind.{Kind}
+use Rattle.qptr.specs.declared.Kind.TheVariants.{OffsetBase, DynOffsetBase}
+use Rattle.qptr.proofs.Nodes.{command_kind}
+use Rattle.support_memory.specs.Nodes.{UsageAt}
 
 module _ (u : Usage) (s : List ℕ) (q : ℕ) (r : ℕ → ℕ) (lo hi : ℕ) (a : Stands u s q r lo hi) where
-  command_is : command_in s q ≡ (head_of u).command
-  command_is = (stands_root u s q r lo hi a).command
+  root_command : command_in s q ≡ (head_of u).command
+  root_command = (stands_root u s q r lo hi a).command
 
   pub size_is : size_in s q ≡ size u
   size_is = (stands_root u s q r lo hi a).size
@@ -21,11 +26,11 @@ pub by_kind : (P : Usage → Type 0) (s : List ℕ) (q : ℕ) (r : ℕ → ℕ) 
     ((z : Size) (es : Entries) → command_in s q ≡ 3 → Stands (map z es) s q r lo hi → P (map z es)) →
     ((z : Size) (n : ℕ) (e : Usage) → command_in s q ≡ 4 → Stands (array z n e) s q r lo hi → P (array z n e)) →
     (u : Usage) → Stands u s q r lo hi → P u
-by_kind P s q r lo hi f g h i (unused z) a = f z (command_is (unused z) s q r lo hi a) a
-by_kind P s q r lo hi f g h i (leaf z true t) a = let k = command_is (leaf z true t) s q r lo hi a in g z true t (omega arith, omega arith) a
-by_kind P s q r lo hi f g h i (leaf z false t) a = let k = command_is (leaf z false t) s q r lo hi a in g z false t (omega arith, omega arith) a
-by_kind P s q r lo hi f g h i (map z es) a = h z es (command_is (map z es) s q r lo hi a) a
-by_kind P s q r lo hi f g h i (array z n e) a = i z n e (command_is (array z n e) s q r lo hi a) a
+by_kind P s q r lo hi f g h i (unused z) a = f z (root_command (unused z) s q r lo hi a) a
+by_kind P s q r lo hi f g h i (leaf z true t) a = let k = root_command (leaf z true t) s q r lo hi a in g z true t (omega arith, omega arith) a
+by_kind P s q r lo hi f g h i (leaf z false t) a = let k = root_command (leaf z false t) s q r lo hi a in g z false t (omega arith, omega arith) a
+by_kind P s q r lo hi f g h i (map z es) a = h z es (root_command (map z es) s q r lo hi a) a
+by_kind P s q r lo hi f g h i (array z n e) a = i z n e (root_command (array z n e) s q r lo hi a) a
 
 pub on_map : (P : Usage → Type 0) (s : List ℕ) (q : ℕ) (r : ℕ → ℕ) (lo hi : ℕ) → command_in s q ≡ 3 →
     ((z : Size) (es : Entries) → Stands (map z es) s q r lo hi → P (map z es)) → (u : Usage) → Stands u s q r lo hi → P u
@@ -36,3 +41,19 @@ pub on_array : (P : Usage → Type 0) (s : List ℕ) (q : ℕ) (r : ℕ → ℕ)
     ((z : Size) (n : ℕ) (e : Usage) → Stands (array z n e) s q r lo hi → P (array z n e)) → (u : Usage) → Stands u s q r lo hi → P u
 on_array P s q r lo hi k f =
     by_kind P s q r lo hi (λ z c a. absurd (omega arith)) (λ z l t c a. absurd (omega arith)) (λ z es c a. absurd (omega arith)) (λ z n e c a. f z n e a)
+
+-- its record has a node's command, so its kind says which
+pub command_of_kind : (u : Usage) (s : List ℕ) (q : ℕ) (r : ℕ → ℕ) (lo hi : ℕ) {k : Kind} → Stands u s q r lo hi → k ≡ kind_of (command_in s q) → (v : Kind) → k ≡ v → command_in s q ≡ command_of v
+command_of_kind u s q r lo hi a x v e =
+    let node : command_in s q ≤ 4 = by_kind (λ u. command_in s q ≤ 4) s q r lo hi (λ z c a. omega arith) (λ z l t c a. omega arith) (λ z es c a. omega arith) (λ z n e c a. omega arith) u a in
+    sym (command_kind (command_in s q) node) ∙ ap command_of (sym x ∙ e)
+
+module _ {s : List ℕ} {q : ℕ} {k : Kind} (w : UsageAt s q) (x : k ≡ kind_of (command_in s q)) where
+  pub command_is : (v : Kind) → k ≡ v → command_in s q ≡ command_of v
+  command_is = command_of_kind w.usage s q w.rank w.lo w.hi w.stands x
+
+  pub is_map : k ≡ OffsetBase → command_in s q ≡ 3
+  is_map = command_is OffsetBase
+
+  pub is_array : k ≡ DynOffsetBase → command_in s q ≡ 4
+  is_array = command_is DynOffsetBase

@@ -1,29 +1,46 @@
 // What questions of support remember: answers that were given, in the spare words of the nodes and in a list.
 #![tactic(auto)]
 
-ghost use Rattle.std.specs.Prelude.{◌≡◌, ◌+◌, ◌*◌, ◌<◌, ◌≤◌, length};
-ghost use Rattle.records.specs.Records.{command_in, size_in, tag_in};
+ghost use Rattle.std.specs.Prelude.{◌≡◌, ◌+◌, ◌*◌, ◌<◌, ◌≤◌, length, IfSome};
+ghost use Rattle.qptr.specs.Values.{size_of};
+ghost use Rattle.records.specs.Records.{command_in, tag_in};
 ghost use Rattle.support_memory.specs.Nodes.{UsageAt, Forgotten};
-ghost use Rattle.support_memory.specs.Memory.{tag_of, LooksUp, Recollects, Keeps, Remembers, is_empty};
+ghost use Rattle.support_memory.specs.Memory.{tag_of, answer_of, In, Recollects, Keeps, Remembers, is_empty};
 
-use qptr::MaxSize;
-use records::{child, command, max_size, next, past, put_mark, tag};
+use qptr::{Kind, MaxSize};
+use records::{child, kind, max_size, next, past, put_mark, tag};
 
-// How many answers a short list has room for, and a long one; and their words, two for each answer.
-const SHORT: usize = 256;
+// How many answers a short list has room for, and a long one. One with less room than a short one remembers nothing.
+pub const SHORT: usize = 256;
 
-const LONG: usize = 4096;
+pub const LONG: usize = 4096;
 
-pub const SHORT_WORDS: usize = 512;
-
-pub const LONG_WORDS: usize = 8192;
-
-// What is remembered of a question.
+// An answer in a list: the tag of what was asked, and the offset.
 #[derive(Clone, Copy)]
-pub enum Recalled {
-    Nothing,
-    No,
-    Yes,
+pub struct Answer {
+    pub tag: u32,
+    pub past: u32,
+}
+
+impl Answer {
+    pub const NONE: Answer = Answer { tag: 0, past: 0 };
+
+    // What the answer says of this number at this offset, if it is about them.
+    fn about(self, k: u32, at: u32) -> Option<bool>
+        requires { k < 134217728 }
+        ensures { IfSome result (λ yes. self ≡ answer_of k at yes) }
+    {
+        if self.past != at {
+            return None;
+        }
+        if self.tag == tag_of(k, false) {
+            return Some(false);
+        }
+        if self.tag == tag_of(k, true) {
+            return Some(true);
+        }
+        None
+    }
 }
 
 // A number, and one more for no or two for yes. 0 is no tag.
@@ -31,10 +48,7 @@ fn tag_of(k: u32, yes: bool) -> u32
     requires { k < 134217728 }
     ensures { result ≡ tag_of k yes }
 {
-    if yes {
-        return k * 2 + 2;
-    }
-    k * 2 + 1
+    if yes { k * 2 + 2 } else { k * 2 + 1 }
 }
 
 // A node of the usage and a type of the table in one number.
@@ -47,73 +61,56 @@ fn node_and_type(ty: u32, q: usize) -> u32
 
 // Which of n places in a list a question has. Any would do; these lie far apart for questions that follow each other.
 fn slot(k: u32, at: u32, n: usize) -> usize
-    requires { (k < 134217728) × (256 ≤ n) }
+    requires { (k < 134217728) × (SHORT ≤ n) }
     ensures { result < n }
 {
-    let i = ((k as u64 * 2654435769 / 65536 + at as u64 * 97) % LONG as u64) as usize;
-    if i < n {
-        return i;
-    }
-    i % SHORT
+    let i = ((u64::from(k) * 2654435769 / 65536 + u64::from(at) * 97) % LONG as u64) as usize;
+    if i < n { i } else { i % SHORT }
 }
 
 // What a list has of a question.
-fn look_up(answers: &[u32], ty: u32, at: u32, q: usize) -> Recalled
+fn look_up(answers: &[Answer], ty: u32, at: u32, q: usize) -> Option<bool>
     requires { (ty < 1024) × (q < 65536) }
-    ensures { LooksUp ty at q answers.now result }
+    ensures { IfSome result (In answers.now ty at q) }
 {
-    let n = answers.len() / 2;
-    if n < SHORT {
-        return Recalled::Nothing;
+    if answers.len() < SHORT {
+        return None;
     }
     let k = node_and_type(ty, q);
-    let i = slot(k, at, n) * 2;
-    if answers[i + 1] != at {
-        return Recalled::Nothing;
-    }
-    let t = answers[i];
-    if t == tag_of(k, false) {
-        return Recalled::No;
-    }
-    if t == tag_of(k, true) {
-        return Recalled::Yes;
-    }
-    Recalled::Nothing
+    answers[slot(k, at, answers.len())].about(k, at)
 }
 
 // An answer is put into a list, over what has its place.
-fn keep(answers: &mut [u32], ty: u32, at: u32, q: usize, yes: bool)
+fn keep(answers: &mut [Answer], ty: u32, at: u32, q: usize, yes: bool)
     requires { (ty < 1024) × (q < 65536) }
     ensures { Keeps answers.old answers.new ty at q yes }
 {
-    let n = answers.len() / 2;
-    if n < SHORT {
+    if answers.len() < SHORT {
         return;
     }
     let k = node_and_type(ty, q);
-    let i = slot(k, at, n) * 2;
-    answers[i] = tag_of(k, yes);
-    answers[i + 1] = at;
+    answers[slot(k, at, answers.len())] = Answer {
+        tag: tag_of(k, yes),
+        past: at,
+    };
 }
 
 // A node remembers the last question that went past the first tests, the type as its tag and the offset; others may be in the list.
-pub fn recall(ty: u32, at: u32, s: &[u8], q: usize, answers: &[u32]) -> Recalled
+pub fn recall(ty: u32, at: u32, s: &[u8], q: usize, answers: &[Answer]) -> Option<bool>
     requires { (ty < 1024) × (q < 65536) × (q * 32 + 32 ≤ length s.now) }
-    ensures { Recollects ty at s.now q answers.now result }
+    ensures { IfSome result (Recollects ty at s.now q answers.now) }
 {
-    if past(s, q) == at {
-        let t = tag(s, q);
-        if t == tag_of(ty, false) {
-            return Recalled::No;
-        }
-        if t == tag_of(ty, true) {
-            return Recalled::Yes;
-        }
+    let mark = Answer {
+        tag: tag(s, q),
+        past: past(s, q),
+    };
+    if let Some(yes) = mark.about(ty, at) {
+        return Some(yes);
     }
     look_up(answers, ty, at, q)
 }
 
-pub fn remember(ty: u32, at: u32, s: &mut [u8], q: usize, answers: &mut [u32], yes: bool)
+pub fn remember(ty: u32, at: u32, s: &mut [u8], q: usize, answers: &mut [Answer], yes: bool)
     requires { (ty < 1024) × (q < 65536) × (q * 32 + 32 ≤ length s.old) }
     ensures { Remembers ty at s.old s.new q answers.old answers.new yes }
 {
@@ -121,75 +118,90 @@ pub fn remember(ty: u32, at: u32, s: &mut [u8], q: usize, answers: &mut [u32], y
     keep(answers, ty, at, q, yes);
 }
 
-// Is record q a usage of fixed size 0, and not Unused?
-fn is_empty(s: &[u8], q: usize) -> bool
-    requires { q * 32 + 32 ≤ length s.now }
-    ensures { result ≡ is_empty (command_in s.now q) (size_in s.now q) }
+// Is a usage of this kind and size of fixed size 0, and not Unused?
+fn is_empty(kind: Kind, size: MaxSize) -> bool
+    ensures { result ≡ is_empty kind (size_of size) }
 {
-    if command(s, q) == 0 {
-        return false;
+    size == MaxSize::Fixed(0) && kind != Kind::Unused
+}
+
+// What forgetting saw: how many nodes, and whether the same questions about one of them can come back in turns. Nothing is promised of
+// it, since it only chooses how long a list of answers is: with any list the same is supported.
+#[derive(Clone, Copy)]
+pub struct Seen {
+    pub nodes: usize,
+    pub in_turns: bool,
+}
+
+impl Seen {
+    const NONE: Seen = Seen {
+        nodes: 0,
+        in_turns: false,
+    };
+
+    fn node(in_turns: bool) -> Seen {
+        Seen { nodes: 1, in_turns }
     }
-    match max_size(s, q) {
-        MaxSize::Dynamic => false,
-        MaxSize::Fixed(n) => n == 0,
+
+    fn and(self, other: Seen) -> Seen {
+        Seen {
+            nodes: self.nodes.wrapping_add(other.nodes),
+            in_turns: self.in_turns || other.in_turns,
+        }
     }
 }
 
-// What a node adds to the count of those that forget, besides one, where the same questions about it can come back in turns. They can
-// where one question leads to several: for a usage of size 0, which many components contain, and for maps and arrays inside of others,
-// whose offsets differ by the way. Of the count nothing is promised, since it only chooses how long a list of answers is: with any list
-// the same is supported.
-pub const IN_TURNS: usize = 65536;
-
-fn counted(in_turns: bool) -> usize {
-    if in_turns {
-        return 1 + IN_TURNS;
-    }
-    1
-}
-
-// The usage at record q, which is inside of another, remembers nothing.
+// The usage at record q remembers nothing. Questions come back in turns where one of them leads to several: for a usage of size 0, which
+// many components contain, and for maps and arrays inside of others, whose offsets differ by the way. This is compiled into its callers,
+// so that an entry that is a leaf costs no call: with one, forgetting a map took twice as long.
 #[cycle(forgetting)]
-fn forget_inner(s: &mut [u8], q: usize) -> usize
+#[inline(always)]
+fn forget_node(s: &mut [u8], q: usize, inside: bool) -> Seen
     requires { UsageAt s.old q }
     ensures { Forgotten s.old s.new q }
 {
     put_mark(s, q, 0, 0);
-    if command(s, q) < 3 {
-        return counted(is_empty(s, q));
+    let kind = kind(s, q);
+    let empty = is_empty(kind, max_size(s, q));
+    match kind {
+        Kind::Unused | Kind::StrictlyTyped | Kind::DirectAccess => Seen::node(empty),
+        Kind::OffsetBase => Seen::node(inside || empty).and(forget_entries(s, q)),
+        Kind::DynOffsetBase => Seen::node(inside || empty).and(forget_element(s, q)),
     }
-    forget_below(s, q, counted(true))
 }
 
-// Record q has forgotten, and so does what is below it: its element, or its entries. They are added to the count.
+// The array at record q has forgotten, and so does its element.
 #[cycle(forgetting)]
-fn forget_below(s: &mut [u8], q: usize, count: usize) -> usize
+fn forget_element(s: &mut [u8], q: usize) -> Seen
     requires usage_at { UsageAt s.old q }
-    requires bound { (3 ≤ command_in s.old q) × (tag_in s.old q ≡ 0) }
+    requires array { (command_in s.old q ≡ 4) × (tag_in s.old q ≡ 0) }
     ensures { Forgotten s.old s.new q }
 {
-    let is_array = command(s, q) == 4;
-    let mut n = count;
+    let element = child(s, q);
+    forget_node(s, element, true)
+}
+
+// The map at record q has forgotten, and so do its entries. They are linked by numbers in the bytes that are written on the way, so no
+// iterator can hold these.
+#[cycle(forgetting)]
+fn forget_entries(s: &mut [u8], q: usize) -> Seen
+    requires usage_at { UsageAt s.old q }
+    requires map { (command_in s.old q ≡ 3) × (tag_in s.old q ≡ 0) }
+    ensures { Forgotten s.old s.new q }
+{
+    let mut seen = Seen::NONE;
     let mut e = child(s, q);
     while e != 0 {
-        n = std::num::wrapping_add_usize(n, forget_inner(s, e));
-        if is_array {
-            return n;
-        }
+        seen = seen.and(forget_node(s, e, true));
         e = next(s, e);
     }
-    n
+    seen
 }
 
 // The usage at record q remembers nothing.
-pub fn forget(s: &mut [u8], q: usize) -> usize
+pub fn forget(s: &mut [u8], q: usize) -> Seen
     requires { UsageAt s.old q }
     ensures { Forgotten s.old s.new q }
 {
-    put_mark(s, q, 0, 0);
-    let n = counted(is_empty(s, q));
-    if command(s, q) < 3 {
-        return n;
-    }
-    forget_below(s, q, n)
+    forget_node(s, q, false)
 }

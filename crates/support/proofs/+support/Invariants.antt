@@ -13,7 +13,7 @@ abbrev pub decreases-any_component_supports : goal.decreases-any_component_suppo
 decreases-any_component_supports l = together l.ty l.s.now l.q
 
 abbrev pub decreases-elements_supported : goal.decreases-elements_supported
-decreases-elements_supported l = together l.elem l.s.now l.q
+decreases-elements_supported l = together l.array.elem l.s.now l.q
 
 abbrev pub decreases-entries_supported : goal.decreases-entries_supported
 decreases-entries_supported l = together l.ty l.s.now l.q
@@ -34,13 +34,20 @@ abbrev pub decreases-supports_past_tests : goal.decreases-supports_past_tests
 decreases-supports_past_tests l = together l.ty l.s.now l.q + 2
 
 abbrev pub invariant-any_component_supports-loop-component : goal.invariant-any_component_supports-loop-component
-invariant-any_component_supports-loop-component l = AskedFrom l.table l.places l.ty l.at l.initial.s l.q l.end l.from × Turned l.table l.places l.initial.s l.s l.initial.answers l.answers
+invariant-any_component_supports-loop-component l = record {
+  asked : AskedFrom l.table l.ty l.at l.initial.s l.q l.end l.from;
+  turned : Turned l.table l.initial.s l.s l.initial.answers l.answers;
+}
 
 abbrev pub decreases-any_component_supports-loop-component : goal.decreases-any_component_supports-loop-component
 decreases-any_component_supports-loop-component l = 18446744073709551616 - l.from
 
 abbrev pub invariant-entries_supported-loop-e : goal.invariant-entries_supported-loop-e
-invariant-entries_supported-loop-e l = Linked l.initial.s l.q l.e × Walked l.table l.places l.ty l.at l.initial.s l.q l.e × Turned l.table l.places l.initial.s l.s l.initial.answers l.answers
+invariant-entries_supported-loop-e l = record {
+  linked : Linked l.initial.s l.q l.e;
+  walked : Walked l.table l.ty l.at l.initial.s l.q l.e;
+  turned : Turned l.table l.initial.s l.s l.initial.answers l.answers;
+}
 
 abbrev pub decreases-entries_supported-loop-e : goal.decreases-entries_supported-loop-e
 decreases-entries_supported-loop-e l = chain 65536 l.initial.s l.e

@@ -1,47 +1,69 @@
--- What is below a node has fewer nodes than it: the measure is their number, and a node comes before what is below it.
-use Rattle.std.proofs.Common.{arith, rules}
-use Rattle.support_memory.proofs.Staying.{unchanged_marked, usage_after}
-use Rattle.support_memory.proofs.Linked.{nodes_stay}
-use Rattle.support_memory.proofs.Forgetting.{going_first, going_usage, going_fewer, going_within, going_element, going_next, going_falls, going_over, forgot_leaf, forgot_all}
+-- What is below a node has fewer nodes than it: the measure is their number, and a node comes before its entries.
+use Rattle.std.proofs.Common.{◌∙◌, arith, rules}
+use Rattle.support_memory.proofs.Staying.{unchanged_both, next_stays, usage_after}
+use Rattle.support_memory.proofs.Roots.{is_map, is_array}
+use Rattle.support_memory.proofs.Linked.{nodes_stay, element_usage, element_smaller, first_linked, next_linked, chain_falls, entry_usage, entry_smaller}
+use Rattle.support_memory.proofs.Forgetting.{marked_usage, marked_nodes, forgot_leaf, forgot_map, forgot_array, forgot_element, clearing_none, clearing_one, clearing_all}
 use Rattle.support_memory.proofs.+forgetting.Goals as goal
 
-pub forget_below-loop-e-init : goal.forget_below-loop-e-init
-forget_below-loop-e-init t c = search (going_first, rules)
+pub forget_entries-loop-e-init : goal.forget_entries-loop-e-init
+forget_entries-loop-e-init t c =
+    record { linked = first_linked c.requires.map.0 c.requires.usage_at c.child-e.ensures; clearing = clearing_none c.child-e.ensures }
 
-pub forget_below-forget_inner-requires : goal.forget_below-forget_inner-requires
-forget_below-forget_inner-requires t c = (search (going_fewer, rules), search (going_usage, rules))
+pub forget_entries-forget_node-requires : goal.forget_entries-forget_node-requires
+forget_entries-forget_node-requires t c =
+    let I = c.loop-e.invariant in
+    let w = entry_usage I.linked c.loop-e-test.true in
+    (omega (arith, nodes_stay I.clearing.records w, entry_smaller I.linked c.loop-e-test.true), usage_after I.clearing.records w)
 
-pub forget_below-returns-then-is_array : goal.forget_below-returns-then-is_array
-forget_below-returns-then-is_array t c = search (going_element, rules)
+pub forget_entries-next-e-requires : goal.forget_entries-next-e-requires
+forget_entries-next-e-requires t c =
+    let I = c.loop-e.invariant in
+    let U = unchanged_both I.clearing.records c.forget_node.ensures.records in
+    omega (arith, (entry_usage I.linked c.loop-e-test.true).within, U.len)
 
-pub forget_below-shape_of-s-then-is_array : goal.forget_below-shape_of-s-then-is_array
-forget_below-shape_of-s-then-is_array t c = (forget_below-returns-then-is_array t c).records.len
+pub forget_entries-loop-e-smaller : goal.forget_entries-loop-e-smaller
+forget_entries-loop-e-smaller t c =
+    let I = c.loop-e.invariant in
+    let U = unchanged_both I.clearing.records c.forget_node.ensures.records in
+    chain_falls I.linked c.loop-e-test.true (c.next-e.ensures.0 ∙ next_stays U c.loop-e.e)
 
-pub forget_below-next-e-requires : goal.forget_below-next-e-requires
-forget_below-next-e-requires t c =
-    omega (arith, going_within c.requires.usage_at c.loop-e-test.true c.loop-e.invariant)
+pub forget_entries-loop-e-preserved : goal.forget_entries-loop-e-preserved
+forget_entries-loop-e-preserved t c =
+    let I = c.loop-e.invariant in
+    let U = unchanged_both I.clearing.records c.forget_node.ensures.records in
+    record {
+      linked = next_linked I.linked c.loop-e-test.true (c.next-e.ensures.0 ∙ next_stays U c.loop-e.e) c.next-e.ensures.1;
+      clearing = clearing_one I.clearing c.forget_node.ensures c.next-e.ensures;
+    }
 
-pub forget_below-loop-e-smaller : goal.forget_below-loop-e-smaller
-forget_below-loop-e-smaller t c = search (going_falls, rules)
+pub forget_entries-returns : goal.forget_entries-returns
+forget_entries-returns t c = clearing_all c.requires.map.0 c.requires.map.1 c.loop-e.invariant.clearing c.loop-e-test.false
 
-pub forget_below-loop-e-preserved : goal.forget_below-loop-e-preserved
-forget_below-loop-e-preserved t c = search (going_next, rules)
+pub forget_node-forget_entries-requires : goal.forget_node-forget_entries-requires
+forget_node-forget_entries-requires t c =
+    let w = marked_usage c.requires c.put_mark.ensures (search rules) in
+    (omega (arith, marked_nodes c.requires c.put_mark.ensures (search rules)), (w, (search (is_map, rules), search rules)))
 
-pub forget_below-returns : goal.forget_below-returns
-forget_below-returns t c = search (going_over, rules)
+pub forget_node-forget_element-requires : goal.forget_node-forget_element-requires
+forget_node-forget_element-requires t c =
+    let w = marked_usage c.requires c.put_mark.ensures (search rules) in
+    (omega (arith, marked_nodes c.requires c.put_mark.ensures (search rules)), (w, (search (is_array, rules), search rules)))
 
-pub forget_below-shape_of-s : goal.forget_below-shape_of-s
-forget_below-shape_of-s t c = (forget_below-returns t c).records.len
+pub forget_element-forget_node-requires : goal.forget_element-forget_node-requires
+forget_element-forget_node-requires t c =
+    let w = c.requires.usage_at in
+    let k = c.requires.array.0 in
+    (omega (arith, element_smaller k w c.child-element.ensures), element_usage k w c.child-element.ensures)
 
-pub forget_inner-returns-then-command-lt3 : goal.forget_inner-returns-then-command-lt3
-forget_inner-returns-then-command-lt3 t c = search (forgot_leaf, rules)
+pub forget_element-returns : goal.forget_element-returns
+forget_element-returns t c = forgot_element c.requires.array.0 c.requires.array.1 c.child-element.ensures.0 c.forget_node.ensures
 
-pub forget_inner-forget_below-requires : goal.forget_inner-forget_below-requires
-forget_inner-forget_below-requires t c =
-    let w = c.requires in
-    let m = c.put_mark.ensures in
-    let U = unchanged_marked m (search rules) in
-    (omega (arith, nodes_stay U w), (usage_after U w, (omega (arith, c.command.ensures, c.if-command-lt3.false), m.tag)))
+pub forget_node-returns-in-Unused : goal.forget_node-returns-in-Unused
+forget_node-returns-in-Unused t c = search (forgot_leaf, rules)
 
-pub forget_inner-returns : goal.forget_inner-returns
-forget_inner-returns t c = search (forgot_all, rules)
+pub forget_node-returns-after-inside : goal.forget_node-returns-after-inside
+forget_node-returns-after-inside t c = search (forgot_map, rules)
+
+pub forget_node-returns-after-inside-2 : goal.forget_node-returns-after-inside-2
+forget_node-returns-after-inside-2 t c = search (forgot_array, rules)
