@@ -1,11 +1,7 @@
 -- Rule 5's beginning: whatever b does, the state that is left stands for what the rule gives.
 -- Assumes nothing.
-use Prim.Native.Nat.{ℕ, ◌+◌, ◌%◌, ◌^◌, ◌<◌}
-use mathlib.Core.Path.{◌≡◌, refl, sym, ap, ◌∙◌}
-use mathlib.Core.Bool.{true, false}
-use mathlib.Core.List.{List, []}
-use native.Mathlib.Omega.{arith}
-use lib.ListN.{length}
+use Rattle.std.proofs.Common.{◌≡◌, ℕ, ◌+◌, ◌%◌, ◌^◌, ◌<◌, true, false, List, [], length, refl, sym, ap, ◌∙◌, arith}
+use Rattle.std.specs.Prelude.{Ok}
 use Rattle.definitions.specs.Usage.{Usage, array, nodes}
 use Rattle.definitions.specs.Command.{head_of}
 use Rattle.definitions.specs.Table.{Setting}
@@ -15,6 +11,7 @@ use Rattle.links.specs.Standing.{Stands}
 use Rattle.links.proofs.Stands.{stands_wide, stands_le}
 use Rattle.links.proofs.Frames.{kept_none}
 use Rattle.report.specs.Emitted.{Emitted}
+use Rattle.report.specs.declared.Report.{Report}
 use Rattle.place_states.specs.Calls.{Two, ground}
 use Rattle.place_states.specs.States.{Pending, Next}
 use Rattle.place_states.specs.Starts.{Plain, Starts}
@@ -27,80 +24,67 @@ use Rattle.place_arrays.specs.declared.Meeting.{Meeting}
 use Rattle.place_arrays.specs.declared.Meeting.TheVariants.{Inside, Elements, Apart}
 use Rattle.place_arrays.proofs.Elements.{array_fits, array_merges, array_conflict}
 use Rattle.place_arrays.proofs.Strides.{array_argument}
-use Rattle.place_arrays.proofs.Pairing.{some_todo, pending_element}
+use Rattle.place_arrays.proofs.Pairing.{ahead_element, pending_element}
 
 -- How the rule goes on, by what b does
-module _ (s rep : List ℕ) (a d b at : ℕ) (plain : Plain (command_in s b) d) (is : command_in s a ≡ 4) (small : at < 2 ^ 64)
+module _ (s : List ℕ) (rep : Report) (a d b : ℕ) (plain : Plain (command_in s b) d) (is : command_in s a ≡ 4)
     (w : Meeting) (meets : Meets s a d b w) where
   -- b goes into the element
-  pub starts_inside : (r x : ℕ) (st : State) → w ≡ Inside r → x ≡ child_in s a → st ≡ element_state x b r at → Starts s a d b rep at s rep st
+  pub starts_inside : (r x : ℕ) (st : State) → rep.at < 2 ^ 64 → w ≡ Inside r → x ≡ child_in s a → st ≡ element_state x b r rep.at → Starts s a d b rep s rep (Ok st)
   unfolding Stands Meets
-  starts_inside r x st inside ex e =
+  starts_inside r x st small inside ex e =
       let m : (r ≡ d % argument_in s a) × Fits s a d b true = rw inside at meets in
-      let todo = some_todo (d % argument_in s a) in
       rw (e, ex, m.0) (record {
-        todo = todo.1;
-        next = λ setting t u r lo mid hi two short. record {
-          ends = λ z. absurd (omega (arith, todo));
-          holds = λ z. absurd (omega (arith, todo));
-          goes = λ _. go setting m.1 (left_array two is) u r lo mid hi two;
-        };
+        next = λ setting t u r lo mid hi two short. ahead_element (go setting m.1 (left_array two is) u r lo mid hi two);
       })
     where
       go : (setting : Setting) → Fits s a d b true → {t : Usage} → IsArray t → (u : Usage) (r : ℕ → ℕ) (lo mid hi : ℕ) → Two (length setting.table) s a b r lo mid hi t u
-          → Pending setting (after [] 1 (place_by_kind setting (place setting) t d u)) (ground s r lo hi rep at) (nodes t + nodes u) s rep a (element_state (child_in s a) b (d % argument_in s a) at)
+          → Pending setting (after [] 1 (place_by_kind setting (place setting) t d u)) (ground s r lo hi rep) (nodes t + nodes u) s rep a (element_state (child_in s a) b (d % argument_in s a) rep.at)
       go setting fits (is_array z n v) u r lo mid hi two =
           let own : argument_in s a ≡ n = two.left.1 in
-          rw own (pending_element setting s rep a (d % n) at z n v r lo mid two.left two.left_fits small _ _ u b hi two.right two.right_fits two.few (omega arith)
+          rw own (pending_element setting s rep a (d % n) z n v r lo mid two.left two.left_fits small _ _ u b hi two.right two.right_fits two.few (omega arith)
           (ap (after [] 1) (sym (right_plain two setting (place setting) d plain ∙ array_fits setting z n v d u (rw (own, right_size two) at fits)))))
 
   -- b's element goes into the element
-  pub starts_merging : (x m : ℕ) (st : State) → w ≡ Elements → x ≡ child_in s a → m ≡ child_in s b → st ≡ element_state x m 0 at → Starts s a d b rep at s rep st
+  pub starts_merging : (x m : ℕ) (st : State) → rep.at < 2 ^ 64 → w ≡ Elements → x ≡ child_in s a → m ≡ child_in s b → st ≡ element_state x m 0 rep.at → Starts s a d b rep s rep (Ok st)
   unfolding Stands Meets
-  starts_merging x m st elements ex em e =
+  starts_merging x m st small elements ex em e =
       let longer : Longer s a d b true = rw elements at meets in
       let command : command_in s b ≡ 4 = (longer.strides.holds refl).1 in
       rw (e, ex, em) (record {
-        todo = omega arith;
-        next = λ setting t u r lo mid hi two short. record {
-          ends = λ z. absurd (omega arith);
-          holds = λ z. absurd (omega arith);
-          goes = λ _. go setting longer (left_array two is) (right_array two command) r lo mid hi two;
-        };
+        next = λ setting t u r lo mid hi two short. ahead_element (go setting longer (left_array two is) (right_array two command) r lo mid hi two);
       })
     where
       go : (setting : Setting) → Longer s a d b true → {t u : Usage} → IsArray t → IsArray u → (r : ℕ → ℕ) (lo mid hi : ℕ) → Two (length setting.table) s a b r lo mid hi t u
-          → Pending setting (after [] 1 (place_by_kind setting (place setting) t d u)) (ground s r lo hi rep at) (nodes t + nodes u) s rep a (element_state (child_in s a) (child_in s b) 0 at)
+          → Pending setting (after [] 1 (place_by_kind setting (place setting) t d u)) (ground s r lo hi rep) (nodes t + nodes u) s rep a (element_state (child_in s a) (child_in s b) 0 rep.at)
       go setting longer (is_array z n v) (is_array y k f) r lo mid hi two =
           let own : argument_in s a ≡ n = two.left.1 in
           let found = longer.strides.holds refl in
           let equal : k ≡ n = sym two.right.1 ∙ found.2 ∙ own in
           let f-stands : Stands f s (child_in s b) r mid hi = stands_wide f s (child_in s b) r _ hi mid hi (omega (arith, two.right.0.low)) (omega arith) two.right.2 in
-          pending_element setting s rep a 0 at z n v r lo mid two.left two.left_fits small _ _ f (child_in s b) hi f-stands two.right_fits.3 (omega (arith, two.few)) (omega arith)
+          pending_element setting s rep a 0 z n v r lo mid two.left two.left_fits small _ _ f (child_in s b) hi f-stands two.right_fits.3 (omega (arith, two.few)) (omega arith)
           (ap (after [] 1) (sym (right_plain two setting (place setting) d plain
           ∙ array_merges setting z n v d y k f (rw (own, right_size two) at longer.longer) (rw own at found.0) equal)))
 
   -- a conflict
-  pub starts_conflict : (stride : ℕ) (rep₁ : List ℕ) (at₁ : ℕ) (st : State) → w ≡ Apart → stride ≡ argument_in s a → Emitted rep at (stride_conflict stride) rep₁ at₁
-      → st ≡ finished_state a 1 at₁ → Starts s a d b rep at s rep₁ st
+  pub starts_conflict : (stride : ℕ) (rep₁ : Report) (st : State) → w ≡ Apart → stride ≡ argument_in s a → Emitted rep (stride_conflict stride) rep₁
+      → st ≡ finished_state a 1 → Starts s a d b rep s rep₁ (Ok st)
   unfolding Stands Meets
-  starts_conflict stride rep₁ at₁ st apart es E e =
+  starts_conflict stride rep₁ st apart es E e =
       let longer : Longer s a d b false = rw apart at meets in
       rw e (record {
-        todo = omega arith;
         next = λ setting t u r lo mid hi two short. go setting longer (left_array two is) u r lo mid hi two;
       })
     where
       go : (setting : Setting) → Longer s a d b false → {t : Usage} → IsArray t → (u : Usage) (r : ℕ → ℕ) (lo mid hi : ℕ) → Two (length setting.table) s a b r lo mid hi t u
-          → Next setting (after [] 1 (place_by_kind setting (place setting) t d u)) (ground s r lo hi rep at) (nodes t + nodes u) s rep₁ a (finished_state a 1 at₁)
+          → Next setting (after [] 1 (place_by_kind setting (place setting) t d u)) (ground s r lo hi rep) (nodes t + nodes u) s rep₁ a (finished_state a 1)
       go setting longer (is_array z n v) u r lo mid hi two =
           let own : argument_in s a ≡ n = two.left.1 in
           let high = stands_le u s b r mid hi two.right in
           let other : d % n ≡ 0 → (head_of u).command ≡ 4 → (head_of u).argument ≡ n → ⊥ = λ o c k.
           longer.strides.fails refl (rw own o) (right_command two ∙ c) (array_argument u s b r mid hi two.right c ∙ k ∙ sym own) in
           rw (right_plain two setting (place setting) d plain ∙ array_conflict setting z n v d u (rw (own, right_size two) at longer.longer) other)
-          (next_finished setting (ground s r lo hi rep at) _ s rep₁ a (done (array z n v) (stride_conflict n) 1) a 1 at₁ (record {
-            answered = refl;
+          (next_finished setting (ground s r lo hi rep) _ s rep₁ a (done (array z n v) (stride_conflict n) 1) a 1 (record {
             rank = r;
             kept = kept_none s r lo hi;
             stands = stands_wide (array z n v) s a r lo mid lo hi (omega arith) (omega arith) two.left;

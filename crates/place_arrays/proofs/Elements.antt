@@ -1,12 +1,7 @@
 -- Rule 5 by its tests: the element's own placing or merge under the array, or the conflict.
 -- Assumes nothing.
-use Prim.Native.Nat.{ℕ, zero, suc, ◌+◌, ◌%◌}
-use mathlib.Core.Path.{◌≡◌, refl}
-use mathlib.Core.Bool.{true, false}
-use mathlib.Core.List.{[]}
-use mathlib.Core.Option.{none as nothing}
-use native.Mathlib.Omega.{arith}
-use borrow.Author.Tests.{eq-eqb, ne_eqb}
+use Rattle.std.proofs.Common.{◌≡◌, ℕ, zero, suc, ◌+◌, ◌%◌, true, false, [], refl, arith, eq-eqb, ne_eqb}
+use Rattle.std.proofs.Math.Option.{none as nothing}
 use Rattle.definitions.specs.If.{when◌then◌else◌}
 use Rattle.definitions.specs.Usage.{Size, Usage, unused, leaf, map, array, size}
 use Rattle.definitions.specs.Command.{head_of}

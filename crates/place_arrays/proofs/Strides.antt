@@ -1,10 +1,7 @@
 -- What an array's record says: a stride that is not 0.
 -- Assumes nothing.
-use Prim.Native.Nat.{ℕ, ◌%◌, ◌<◌, ◌≤◌}
-use mathlib.Core.Path.{◌≡◌}
-use mathlib.Core.List.{List}
-use native.Mathlib.Omega.{arith}
-use native.Mathlib.Nat.{mod-lt}
+use Rattle.std.proofs.Common.{◌≡◌, ℕ, ◌%◌, ◌<◌, ◌≤◌, List, arith}
+use Rattle.std.proofs.Math.Nat.{mod-lt}
 use Rattle.definitions.specs.Usage.{Usage}
 use Rattle.definitions.specs.Command.{head_of}
 use Rattle.records.specs.Records.{command_in, argument_in}

@@ -1,11 +1,9 @@
 -- Rule 5's end: only the root's link changes, and what it now names has ranks above the root's, so the array stands around what its element
 -- has become.
 -- Assumes nothing.
-use Prim.Native.Nat.{ℕ, suc, ◌+◌, ◌*◌, ◌<◌, ◌≤◌}
-use mathlib.Core.Path.{◌≡◌, refl, ap, ◌∙◌}
-use mathlib.Core.List.{List}
-use native.Mathlib.Omega.{arith}
-use lib.ListN.{length}
+use Rattle.std.proofs.Common.{◌≡◌, ℕ, suc, ◌+◌, ◌*◌, ◌<◌, ◌≤◌, List, length, refl, ap, ◌∙◌, arith}
+use Rattle.report.specs.declared.Report.{Report}
+use Rattle.place_states.specs.declared.Rule.TheVariants.{Element as ByElement}
 use Rattle.definitions.specs.Usage.{Usage, array}
 use Rattle.definitions.specs.Table.{Setting}
 use Rattle.definitions.specs.Place.{done}
@@ -21,12 +19,12 @@ use Rattle.place_states.specs.States.{Outside, Standing, Next, Waiting, Moves}
 use Rattle.place_states.specs.Ends.{finished_state}
 use Rattle.place_states.specs.declared.State.{State}
 use Rattle.place_states.proofs.Ending.{next_finished, moves_finished}
-use Rattle.place_states.proofs.Outside.{IsElement, is_element, standing_5, waiting_5}
+use Rattle.place_states.proofs.Outside.{IsElement, is_element, standing_element, waiting_element}
 use Rattle.place_arrays.specs.Arrays.{Wrapped}
 
-pub root_inside : (s : List ℕ) (a : ℕ) (st : State) → Waiting s a st → st.rule ≡ 5 → a * 32 + 32 ≤ length s
+pub root_inside : (s : List ℕ) (a : ℕ) (st : State) → Waiting s a st → st.rule ≡ ByElement → a * 32 + 32 ≤ length s
 unfolding Outside
-root_inside s a st W rule = go (waiting_5 W rule) W.outside
+root_inside s a st W rule = go (waiting_element W rule) W.outside
   where
     go : {y : Beyond} → IsElement y → Outside W.k y s a st W.rank W.lo W.c W.e W.hi → a * 32 + 32 ≤ length s
     go (is_element z n) h = h.root.inside
@@ -34,15 +32,15 @@ root_inside s a st W rule = go (waiting_5 W rule) W.outside
 pub element_small : (s : List ℕ) (a : ℕ) (st : State) → Waiting s a st → st.x < 65536
 element_small s a st W = omega (arith, (stands_root W.u s st.x W.rank W.c W.e W.stands).inside, W.linkable)
 
-pub wrapped : (s s₁ : List ℕ) (a : ℕ) (st st' : State) → st.rule ≡ 5 → length s₁ ≡ length s → Set s s₁ a (with_child st.x (cell s a))
-    → st' ≡ finished_state a st.pairings st.at → Wrapped s a st s₁ st'
+pub wrapped : (s s₁ : List ℕ) (a : ℕ) (st st' : State) → st.rule ≡ ByElement → length s₁ ≡ length s → Set s s₁ a (with_child st.x (cell s a))
+    → st' ≡ finished_state a st.pairings → Wrapped s a st s₁ st'
 unfolding finish Stands Outside
 wrapped s s₁ a st st' rule len C e = record {
-  moves = λ rep. moves_finished s rep a st s₁ rep st' a st.pairings st.at e (λ setting y u w p g n within S short. go rep setting n (standing_5 S rule) S);
+  moves = λ rep. moves_finished s rep a st s₁ rep st' a st.pairings e (λ setting y u w p g n within S short. go rep setting n (standing_element S rule) S);
 }
   where
-    go : (rep : List ℕ) (setting : Setting) {y : Beyond} {u : Usage} {w : List ℕ} {p : ℕ} {g : Ground} (n : ℕ) → IsElement y
-        → Standing (length setting.table) y u w p g s rep a st → Next setting (finish setting y u w p) g n s₁ rep a (finished_state a st.pairings st.at)
+    go : (rep : Report) (setting : Setting) {y : Beyond} {u : Usage} {w : List ℕ} {p : ℕ} {g : Ground} (n : ℕ) → IsElement y
+        → Standing (length setting.table) y u w p g s rep a st → Next setting (finish setting y u w p) g n s₁ rep a (finished_state a st.pairings)
     go rep setting {u} {w} {p} {g} n (is_element z k) S =
         let h = S.outside in
         let r : ℕ → ℕ = S.rank in
@@ -51,8 +49,7 @@ wrapped s s₁ a st st' rule len C e = record {
         let K : Kept s r s₁ r g.lo S.c = kept_set s s₁ r g.lo S.c a (with_child st.x (cell s a)) len R.low R.high C in
         let T : Stands u s₁ st.x r S.c S.e = stands_still u s s₁ st.x r r S.c S.e len (apart s s₁ r r g.lo S.c S.c S.e K (omega arith)) S.stands in
         let own : 1 + p ≡ suc p = omega arith in
-        next_finished setting g n s₁ rep a (done (array z k u) w (1 + p)) a st.pairings st.at (record {
-          answered = refl;
+        next_finished setting g n s₁ rep a (done (array z k u) w (1 + p)) a st.pairings (record {
           rank = r;
           kept = kept_trans g.bytes s s₁ g.rank r r g.lo g.hi S.kept (kept_widen s s₁ r r g.lo S.c g.lo g.hi (omega arith) (omega (arith, h.high)) K);
           stands = (
@@ -66,5 +63,5 @@ wrapped s s₁ a st st' rule len C e = record {
         })
 
 -- for a caller, who knows the report
-pub wrapped_moves : (s s' rep : List ℕ) (a : ℕ) (st st' : State) → Wrapped s a st s' st' → Moves s rep a st s' rep st'
+pub wrapped_moves : (s s' : List ℕ) (rep : Report) (a : ℕ) (st st' : State) → Wrapped s a st s' st' → Moves s rep a st s' rep st'
 wrapped_moves s s' rep a st st' X = X.moves rep

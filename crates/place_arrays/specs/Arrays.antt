@@ -2,8 +2,13 @@
 use Rattle.std.specs.Prelude.{ℕ, zero, suc, ◌%◌, ◌≡◌, Bool, true, false, List}
 use Rattle.definitions.specs.Place.{fits_stride}
 use Rattle.records.specs.Records.{command_in, size_in, argument_in}
+use Rattle.report.specs.declared.Report.{Report}
 use Rattle.place_states.specs.States.{Moves}
+use Rattle.place_states.specs.declared.Rule.TheVariants.{Element as ByElement}
 use Rattle.place_states.specs.declared.State.{State}
+use Rattle.place_states.specs.declared.TheConstants.State.{NONE}
+use Rattle.place_states.specs.declared.Todo.{Todo}
+use Rattle.place_states.specs.declared.Todo.TheVariants.{Place, Merge}
 use Rattle.place_arrays.specs.declared.Meeting.{Meeting}
 use Rattle.place_arrays.specs.declared.Meeting.TheVariants.{Inside, Elements, Apart}
 
@@ -27,29 +32,14 @@ Meets s a d b Elements = Longer s a d b true
 Meets s a d b Apart = Longer s a d b false
 
 -- at 0 the pair is merged
-abbrev pub element_todo : ℕ → ℕ
-element_todo zero = 3
-element_todo (suc r) = 2
+abbrev pub element_todo : ℕ → Todo
+element_todo zero = Merge
+element_todo (suc r) = Place
 
--- record x, and m that goes into it at r
+-- record x, and m that goes into it at r; the report began at `base`
 abbrev pub element_state : ℕ → ℕ → ℕ → ℕ → State
-element_state x m r at = record {
-  refusal = 0;
-  todo = element_todo r;
-  rule = 5;
-  x = x;
-  d = r;
-  m = m;
-  offset = 0;
-  rest = 0;
-  q = 0;
-  low = 0;
-  pairings = 1;
-  base = at;
-  mark = at;
-  at = at;
-}
+element_state x m r base = record NONE { todo = element_todo r; rule = ByElement; x = x; m = m; d = r; pairings = 1; base = base; mark = base }
 
 -- rule 5's array stands around what its element has become; nothing is reported here
 pub record Wrapped (s : List ℕ) (a : ℕ) (st : State) (s' : List ℕ) (st' : State) : Type 0 where
-  pub moves : (rep : List ℕ) → Moves s rep a st s' rep st'
+  pub moves : (rep : Report) → Moves s rep a st s' rep st'

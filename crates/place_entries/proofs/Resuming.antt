@@ -1,9 +1,7 @@
 -- Placing the entries one by one is placing them all: reports and pairings add up in any order.
 -- Assumes nothing.
-use Prim.Native.Nat.{ℕ, suc, ◌+◌}
-use mathlib.Core.Path.{◌≡◌, refl, sym, ap}
-use mathlib.Core.List.{List, [], append-nil}
-use native.Mathlib.Omega.{arith}
+use Rattle.std.proofs.Common.{◌≡◌, ℕ, suc, ◌+◌, List, [], append-nil, refl, sym, ap, arith}
+use Rattle.place_states.specs.declared.Todo.TheVariants.{Place}
 use Rattle.definitions.specs.Usage.{Size, Usage, map, Entries, none, entry}
 use Rattle.definitions.specs.Table.{Setting}
 use Rattle.definitions.specs.Place.{Result, refused, done, of_entry, of_rule, headed, after, and_then, place_entries, place_by_kind, place}
@@ -25,7 +23,7 @@ module _ (st : Setting) where
       ap (λ (x : Result Usage). after [] 1 (headed x)) (sym (after_both w (of_entry o w') p p' (place_entries st (place st) u es)))
 
   pub resume_entry : (o : ℕ) (t u : Usage) (es : Entries) (w : List ℕ) (p : ℕ)
-      → resume st (entries es) o w p (act st 2 o t u) ≡ finish st (entries (entry o u es)) t w p
+      → resume st (entries es) o w p (act st Place o t u) ≡ finish st (entries (entry o u es)) t w p
   unfolding finish act
   resume_entry o t u es w p = resume_of es o w p (place st t o u)
 

@@ -1,4 +1,6 @@
 pub mod Ending
+pub mod Ahead
+pub mod Answering
 pub mod Outside
 pub mod Framing
 pub mod Falling

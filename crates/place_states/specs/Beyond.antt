@@ -1,11 +1,13 @@
 -- What a placing has yet to do beside the pair that is being placed or merged, and what it then gives.
 -- Assumes nothing.
-use Rattle.std.specs.Prelude.{ℕ, zero, suc, ◌+◌, ◌*◌, ◌≤◌, List, [], ◌∷◌, ◌++◌}
+use Rattle.std.specs.Prelude.{ℕ, suc, ◌+◌, ◌*◌, ◌≤◌, List, [], ◌∷◌, ◌++◌}
 use Rattle.definitions.specs.Usage.{Size, Usage, array, Entries, none, entry, nodes_in}
 use Rattle.definitions.specs.Stream.{bytes}
 use Rattle.definitions.specs.Table.{Setting}
 use Rattle.definitions.specs.Place.{Result, refused, done, after, headed, of_entry, Joining, joined, rebuilt, place_entries, join_next, place, merge_mem}
 use Rattle.definitions.specs.Inner.Pairs.{pairs_in}
+use Rattle.place_states.specs.declared.Todo.{Todo}
+use Rattle.place_states.specs.declared.Todo.TheVariants.{Finished, Go, Place, Merge}
 
 -- What stays outside of the pair: rule 2's entries that are still to be placed; rule 5's array around the element, its size and
 -- stride; rule 6's map: its size, the entries below, those still to be joined, those above, and the offset of the pair's result.
@@ -47,12 +49,12 @@ unfoldable pub resume : Setting → Beyond → ℕ → List ℕ → ℕ → Resu
 resume st y o w p (refused k) = refused k
 resume st y o w p (done u w' p') = finish st y u (w ++ marked y o w') (p + p')
 
--- what the pair gives: 3 merges, and else the second is placed in the first at d
-unfoldable pub act : Setting → ℕ → ℕ → Usage → Usage → Result Usage
-act st zero d t u = place st t d u
-act st (suc zero) d t u = place st t d u
-act st (suc (suc zero)) d t u = place st t d u
-act st (suc (suc (suc n))) d t u = merge_mem st t u
+-- what the pair gives: it is merged, or else the second is placed in the first at d
+unfoldable pub act : Setting → Todo → ℕ → Usage → Usage → Result Usage
+act st Finished d t u = place st t d u
+act st Go d t u = place st t d u
+act st Place d t u = place st t d u
+act st Merge d t u = merge_mem st t u
 
 -- the pairs of nodes that can still be met, where what stands so far has n nodes
 abbrev pub spare : Beyond → ℕ → ℕ

@@ -1,6 +1,7 @@
+pub mod Refusals
 pub mod Calls
 pub mod Beyond
+pub mod Ends
 pub mod States
 pub mod Starts
-pub mod Ends
 pub mod Taking

@@ -1,6 +1,6 @@
 -- How a state of a placing's loop stands for what the placing has yet to do.
 -- Assumes nothing.
-use Rattle.std.specs.Prelude.{◌≡◌, ℕ, suc, ◌+◌, ◌-◌, ◌*◌, ◌%◌, ◌^◌, ◌<◌, ◌≤◌, List, ◌++◌, length}
+use Rattle.std.specs.Prelude.{◌≡◌, ℕ, suc, ◌+◌, ◌-◌, ◌*◌, ◌%◌, ◌^◌, ◌<◌, ◌≤◌, List, ◌++◌, length, Ok}
 use Rattle.definitions.specs.Limits.{max32, node_limit}
 use Rattle.definitions.specs.Usage.{Size, In32, Usage, Entries, none, nodes, ◌<+>◌}
 use Rattle.definitions.specs.Table.{Setting}
@@ -12,23 +12,28 @@ use Rattle.links.specs.Standing.{Root, Stands, Row}
 use Rattle.links.specs.Rows.{Down, Up, onto, chain}
 use Rattle.links.specs.Frames.{Kept}
 use Rattle.report.specs.Emitted.{Emitted}
+use Rattle.report.specs.declared.Report.{Report}
 use Rattle.place_states.specs.Calls.{Two, Linkable, Ground, Done}
 use Rattle.place_states.specs.Beyond.{Beyond, entries, element, joins, finish, heading, entry_head, resume, act, spare, outer, UpTo, FromOn}
+use Rattle.place_states.specs.Ends.{merged_of}
 use Rattle.place_states.specs.declared.State.{State}
+use Rattle.place_states.specs.declared.Rule.TheVariants.{Entries as ByEntries, Element as ByElement, Join as ByJoin}
+use Rattle.place_states.specs.declared.Todo.{Todo}
+use Rattle.place_states.specs.declared.Todo.TheVariants.{Finished, Go, Place, Merge}
 
 -- Where what is outside of the pair stands. The pair, or its result, has the ranks from c to e; all has those from lo to hi. The
 -- placing's receiver, where it is an array or a map, is record a.
 
 pub record Placing (k : ℕ) (es : Entries) (s : List ℕ) (st : State) (r : ℕ → ℕ) (lo c e hi : ℕ) : Type 0 where
-  pub rule : st.rule ≡ 2
-  pub asks : st.todo ≤ 2
+  pub rule : st.rule ≡ ByEntries
+  pub asks : st.todo ≡ Merge → ⊥
   pub low : lo ≤ c
   pub held : Row es s st.rest 0 r e hi
   pub lowest : ℕ
   pub fits : Ascends k lowest es
 
 pub record Around (z : Size) (n : ℕ) (s : List ℕ) (a : ℕ) (st : State) (r : ℕ → ℕ) (lo c e hi : ℕ) : Type 0 where
-  pub rule : st.rule ≡ 5
+  pub rule : st.rule ≡ ByElement
   pub root : Root s a r lo c 4 z
   pub stride : argument_in s a ≡ n
   pub high : e ≤ hi
@@ -38,7 +43,7 @@ pub record Around (z : Size) (n : ℕ) (s : List ℕ) (a : ℕ) (st : State) (r 
   pub stride_fits : n ≤ max32
 
 pub record Joins (k : ℕ) (z : Size) (low mid high : Entries) (d : ℕ) (s : List ℕ) (a : ℕ) (st : State) (r : ℕ → ℕ) (lo c e hi : ℕ) : Type 0 where
-  pub rule : st.rule ≡ 6
+  pub rule : st.rule ≡ ByJoin
   pub root : Root s a r lo c 3 z
   pub size_fits : In32 z
   pub offset : st.offset ≡ d
@@ -61,7 +66,7 @@ Outside k (element z n) s a st r lo c e hi = Around z n s a st r lo c e hi
 Outside k (joins z low mid high d) s a st r lo c e hi = Joins k z low mid high d s a st r lo c e hi
 
 -- What the pairs so far have come to is record x: the placing gives `finish setting y u w p`.
-pub record Standing (k : ℕ) (y : Beyond) (u : Usage) (w : List ℕ) (p : ℕ) (g : Ground) (s rep : List ℕ) (a : ℕ) (st : State) : Type 0 where
+pub record Standing (k : ℕ) (y : Beyond) (u : Usage) (w : List ℕ) (p : ℕ) (g : Ground) (s : List ℕ) (rep : Report) (a : ℕ) (st : State) : Type 0 where
   pub rank : ℕ → ℕ
   pub kept : Kept g.bytes g.rank s rank g.lo g.hi
   pub c : ℕ
@@ -72,12 +77,12 @@ pub record Standing (k : ℕ) (y : Beyond) (u : Usage) (w : List ℕ) (p : ℕ) 
   pub pairs : st.pairings ≡ suc p % 2 ^ 32
   pub brief : length w ≤ 14 * p
   pub room : p + apart u + spare y (nodes u) ≤ 2 ^ 32
-  pub based : st.base ≡ g.base
-  pub report : Emitted g.report g.base (heading y ++ w) rep st.at
+  pub based : st.base ≡ g.report.at
+  pub report : Emitted g.report (heading y ++ w) rep
   pub outside : Outside k y s a st rank g.lo c e g.hi
 
 -- With what stands the goal will be reached; n nodes are all that there are.
-pub record Held (setting : Setting) (goal : Result Usage) (g : Ground) (n : ℕ) (s rep : List ℕ) (a : ℕ) (st : State) : Type 0 where
+pub record Held (setting : Setting) (goal : Result Usage) (g : Ground) (n : ℕ) (s : List ℕ) (rep : Report) (a : ℕ) (st : State) : Type 0 where
   pub y : Beyond
   pub u : Usage
   pub w : List ℕ
@@ -87,7 +92,7 @@ pub record Held (setting : Setting) (goal : Result Usage) (g : Ground) (n : ℕ)
   pub standing : Standing (length setting.table) y u w p g s rep a st
 
 -- A pair stands at x and m, and with it the goal will be reached.
-pub record Pending (setting : Setting) (goal : Result Usage) (g : Ground) (n : ℕ) (s rep : List ℕ) (a : ℕ) (st : State) : Type 0 where
+pub record Pending (setting : Setting) (goal : Result Usage) (g : Ground) (n : ℕ) (s : List ℕ) (rep : Report) (a : ℕ) (st : State) : Type 0 where
   pub y : Beyond
   pub o : ℕ
   pub w : List ℕ
@@ -106,9 +111,9 @@ pub record Pending (setting : Setting) (goal : Result Usage) (g : Ground) (n : �
   pub pairs : st.pairings ≡ suc p % 2 ^ 32
   pub brief : length w ≤ 14 * p
   pub room : p + apart t + apart u + nodes t * nodes u + spare y (nodes t + nodes u) ≤ 2 ^ 32
-  pub based : st.base ≡ g.base
-  pub mark : st.mark ≡ (g.base + length (heading y ++ w)) % 2 ^ 64
-  pub report : Emitted g.report g.base ((heading y ++ w) ++ entry_head y o) rep st.at
+  pub based : st.base ≡ g.report.at
+  pub mark : st.mark ≡ (g.report.at + length (heading y ++ w)) % 2 ^ 64
+  pub report : Emitted g.report ((heading y ++ w) ++ entry_head y o) rep
   pub outside : Outside (length setting.table) y s a st rank g.lo c e g.hi
 
 -- a goal's report, which began at `base`, never comes to where positions wrap, nor does any that a straddle takes back on the way
@@ -117,10 +122,21 @@ Short base (refused k) = Unit {0}
 Short base (done u w p) = (base + length w < 2 ^ 63) × (base + 14 * p < 2 ^ 63)
 
 -- finished, and what is left is the goal's; or something stands, from which it goes on; or a pair is pending
-pub record Next (setting : Setting) (goal : Result Usage) (g : Ground) (n : ℕ) (s rep : List ℕ) (a : ℕ) (st : State) : Type 0 where
-  pub ends : st.todo ≡ 0 → Done goal g s st.refusal st.x st.pairings rep st.at
-  pub holds : st.todo ≡ 1 → Held setting goal g n s rep a st
-  pub goes : 2 ≤ st.todo → Pending setting goal g n s rep a st
+abbrev pub Ahead : Todo → Setting → Result Usage → Ground → ℕ → List ℕ → Report → ℕ → State → Type 0
+Ahead Finished setting goal g n s rep a st = Done goal g s (Ok (merged_of st)) rep
+Ahead Go setting goal g n s rep a st = Held setting goal g n s rep a st
+Ahead Place setting goal g n s rep a st = Pending setting goal g n s rep a st
+Ahead Merge setting goal g n s rep a st = Pending setting goal g n s rep a st
+
+pub record Next (setting : Setting) (goal : Result Usage) (g : Ground) (n : ℕ) (s : List ℕ) (rep : Report) (a : ℕ) (st : State) : Type 0 where
+  pub ahead : Ahead st.todo setting goal g n s rep a st
+
+-- the turns that a state takes until the next step of its rule is done
+abbrev pub turns : Todo → ℕ
+turns Finished = 0
+turns Go = 1
+turns Place = 2
+turns Merge = 2
 
 -- What the next step of a rule may assume: something stands at x, and what is outside of it.
 pub record Waiting (s : List ℕ) (a : ℕ) (st : State) : Type 0 where
@@ -139,9 +155,8 @@ pub record Waiting (s : List ℕ) (a : ℕ) (st : State) : Type 0 where
   pub linkable : Linkable s
 
 -- What it leaves: fewer entries to come, and the goal still ahead.
-pub record Moves (s rep : List ℕ) (a : ℕ) (st : State) (s' rep' : List ℕ) (st' : State) : Type 0 where
-  pub todo : st'.todo ≤ 3
-  pub fall : chain 65536 s' st'.rest + 1 ≤ chain 65536 s st.rest + (1 - st'.todo)
+pub record Moves (s : List ℕ) (rep : Report) (a : ℕ) (st : State) (s' : List ℕ) (rep' : Report) (st' : State) : Type 0 where
+  pub fall : chain 65536 s' st'.rest + 1 ≤ chain 65536 s st.rest + (1 - turns st'.todo)
   pub next : (setting : Setting) (y : Beyond) (u : Usage) (w : List ℕ) (p : ℕ) (g : Ground) (n : ℕ) → nodes u + outer y ≤ n
-      → Standing (length setting.table) y u w p g s rep a st → Short g.base (finish setting y u w p)
+      → Standing (length setting.table) y u w p g s rep a st → Short g.report.at (finish setting y u w p)
       → Next setting (finish setting y u w p) g n s' rep' a st'

@@ -2,19 +2,55 @@
 #![tactic(auto)]
 
 ghost use Rattle.std.specs.Prelude.{◌≡◌};
-ghost use Rattle.place_states.specs.Ends.{finished_state, refused_state, Unheaded};
+ghost use Rattle.place_states.specs.Refusals.{number_of};
+ghost use Rattle.place_states.specs.Ends.{finished_state, Unheaded};
 
-// What a placing, or a merge, has come to: the usage at record `node`.
+use report::Report;
+
+// A placing that is refused: the result would outgrow the receiver, or end past 32 bits.
+#[derive(Clone, Copy, PartialEq, Eq)]
+pub enum SizeRefusal {
+    Outgrown,
+    Past32,
+}
+
+impl SizeRefusal {
+    pub fn number(self) -> u32
+        ensures { result ≡ number_of self }
+    {
+        match self {
+            SizeRefusal::Outgrown => 8,
+            SizeRefusal::Past32 => 9,
+        }
+    }
+}
+
+// What a placing, or a merge, gave: the usage at record `node`.
 #[derive(Clone, Copy)]
-pub struct Outcome {
+pub struct Merged {
     pub node: usize,
-    pub at: usize, // where the report goes on
-    pub refusal: u32, // 0, or 8 or 9
     pub pairings: u32,
 }
 
+// What the loop of a placing does next.
+#[derive(Clone, Copy, PartialEq, Eq)]
+pub enum Todo {
+    Finished,
+    Go, // on from what stands
+    Place, // the pair
+    Merge, // the pair
+}
+
+// The rule that a placing goes by, if it has more than one pair to treat or something to put around it: rules 2, 5 and 6.
+#[derive(Clone, Copy, PartialEq, Eq)]
+pub enum Rule {
+    Entries,
+    Element,
+    Join,
+}
+
 // What a placing has yet to do. A pair: x, and m, which goes into it at d. Or what the pairs so far have come to: x. The widest fields
-// stand first: without a gap a state is copied in whole pieces.
+// stand first: without a gap between them a state is copied in whole pieces.
 #[derive(Clone, Copy)]
 pub struct State {
     pub x: usize, // if finished, the result
@@ -24,65 +60,46 @@ pub struct State {
     pub low: usize, // rule 6: the last of the entries below those that overlap, or 0
     pub base: usize, // where this placing's report began
     pub mark: usize, // rules 2 and 6: where the report stood before the pair's 31
-    pub at: usize,
-    pub refusal: u32,
-    pub todo: u32, // 0 finished, 1 go on from what stands, 2 place the pair, 3 merge it
-    pub rule: u32, // 2, 5 or 6
     pub d: u32,
     pub offset: u32, // rule 6: the offset of the pair's result
     pub pairings: u32,
+    pub todo: Todo,
+    pub rule: Rule,
 }
 
 impl State {
-    pub fn finished(x: usize, pairings: u32, at: usize) -> State
-        ensures { result ≡ finished_state x pairings at }
-    {
-        State {
-            refusal: 0,
-            todo: 0,
-            rule: 0,
-            x: x,
-            d: 0,
-            m: 0,
-            offset: 0,
-            rest: 0,
-            q: 0,
-            low: 0,
-            pairings: pairings,
-            base: 0,
-            mark: 0,
-            at: at,
-        }
-    }
+    // The fields that a state leaves out.
+    pub const NONE: State = State {
+        x: 0,
+        m: 0,
+        rest: 0,
+        q: 0,
+        low: 0,
+        base: 0,
+        mark: 0,
+        d: 0,
+        offset: 0,
+        pairings: 0,
+        todo: Todo::Finished,
+        rule: Rule::Entries,
+    };
 
-    pub fn refused(refusal: u32) -> State
-        ensures { result ≡ refused_state refusal }
+    pub fn finished(x: usize, pairings: u32) -> State
+        ensures { result ≡ finished_state x pairings }
     {
         State {
-            refusal: refusal,
-            todo: 0,
-            rule: 0,
-            x: 0,
-            d: 0,
-            m: 0,
-            offset: 0,
-            rest: 0,
-            q: 0,
-            low: 0,
-            pairings: 0,
-            base: 0,
-            mark: 0,
-            at: 0,
+            x,
+            pairings,
+            ..State::NONE
         }
     }
 }
 
-// Where the report goes on behind the entries of a rule: a 30 with nothing behind it is taken back.
-pub fn without_heading(base: usize, at: usize) -> usize
-    ensures { Unheaded base at result }
+// Behind the entries of a rule, whose report began at `base`: a 30 with nothing behind it is taken back.
+pub fn drop_heading(report: &mut Report<'_>, base: usize)
+    ensures { Unheaded base report.old report.new }
 {
-    if at == std::num::wrapping_add_usize(base, 1) {
-        return base;
+    if report.at == base.wrapping_add(1) {
+        report.at = base;
     }
-    at
 }

@@ -10,12 +10,12 @@ use place_states::State;
 use records::{max_size, put_size};
 
 // b's kind with a's size; the offset is dropped.
-pub fn begin_unused(s: &mut [u8], a: usize, b: usize, at: usize) -> State
+pub fn begin_unused(s: &mut [u8], a: usize, b: usize) -> State
     requires beside { Beside s.old a b }
     requires a_value { command_in s.old a ≡ 0 }
-    ensures { Resized s.old a b at s.new result }
+    ensures { Resized s.old a b s.new result }
 {
     let z = max_size(s, a);
     put_size(s, b, z);
-    State::finished(b, 1, at)
+    State::finished(b, 1)
 }

@@ -1,5 +1,5 @@
 -- `place_arrays::begin_array` meets its contract. What b does is rule 5's choice, and each way leaves what it gives.
-use borrow.Author.Rules.{rules}
+use Rattle.std.proofs.Common.{rules}
 use Rattle.place_arrays.proofs.Choosing.{starts_inside, starts_merging, starts_conflict}
 use Rattle.place_arrays.proofs.begin_array.Goals as goal
 

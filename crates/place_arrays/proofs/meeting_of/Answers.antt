@@ -1,5 +1,5 @@
 -- `place_arrays::meeting_of` meets its contract. The stride, which is not 0, and b's size and stride are read as they stand.
-use borrow.Author.Rules.{rules}
+use Rattle.std.proofs.Common.{rules}
 use Rattle.place_arrays.proofs.Tests.{meets_inside, meets_elements, meets_apart}
 use Rattle.place_arrays.proofs.Strides.{stride_some, rest_within}
 use Rattle.place_arrays.proofs.meeting_of.Goals as goal

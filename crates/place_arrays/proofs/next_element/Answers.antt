@@ -1,5 +1,5 @@
 -- `place_arrays::next_element` meets its contract. The array's link names what its element has become.
-use borrow.Author.Rules.{rules}
+use Rattle.std.proofs.Common.{rules}
 use Rattle.place_arrays.proofs.Wrapping.{root_inside, element_small, wrapped}
 use Rattle.place_arrays.proofs.next_element.Goals as goal
 

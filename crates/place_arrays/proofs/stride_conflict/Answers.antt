@@ -3,4 +3,4 @@ use Rattle.report.proofs.Emitting.{emitted_after}
 use Rattle.place_arrays.proofs.stride_conflict.Goals as goal
 
 pub returns : goal.returns
-returns c = emitted_after c.byte-next.ensures c.word.ensures
+returns c = emitted_after c.byte.ensures c.word.ensures

@@ -1,5 +1,5 @@
 -- `place_entries::begin_entries` meets its contract. Before the first entry a is the result so far.
-use borrow.Author.Rules.{rules}
+use Rattle.std.proofs.Common.{rules}
 use Rattle.place_entries.proofs.Starts.{starts}
 use Rattle.place_entries.proofs.begin_entries.Goals as goal
 

@@ -1,5 +1,5 @@
 -- `place_entries::next_entry` meets its contract. With no entry left the result is the whole, and else the first of those left goes into it.
-use borrow.Author.Rules.{rules}
+use Rattle.std.proofs.Common.{rules}
 use Rattle.place_entries.proofs.Steps.{rest_inside, next_none, next_more}
 use Rattle.place_entries.proofs.next_entry.Goals as goal
 

@@ -1,5 +1,5 @@
 -- `place_unused::begin_unused` meets its contract. b, with the size that a had, is what rule 3 gives.
-use borrow.Author.Rules.{rules}
+use Rattle.std.proofs.Common.{rules}
 use Rattle.place_unused.proofs.Resizing.{resized}
 use Rattle.place_unused.proofs.begin_unused.Goals as goal
 

@@ -1,0 +1,30 @@
+-- What an answer says of its goal.
+-- Assumes nothing.
+use Rattle.std.proofs.Common.{◌≡◌, ℕ, List, refl}
+use Rattle.std.specs.Prelude.{Ok, Err}
+use Rattle.definitions.specs.Usage.{Usage}
+use Rattle.definitions.specs.Place.{Result, refused, done}
+use Rattle.report.specs.declared.Report.{Report}
+use Rattle.place_states.specs.Refusals.{number_of}
+use Rattle.place_states.specs.Calls.{Ground, Answered, Done}
+use Rattle.place_states.specs.declared.Merged.{Merged}
+use Rattle.place_states.specs.declared.SizeRefusal.{SizeRefusal}
+
+-- the goal is a usage, which m names
+pub record Reached (goal : Result Usage) (g : Ground) (s : List ℕ) (m : Merged) (rep : Report) : Type 0 where
+  pub u : Usage
+  pub w : List ℕ
+  pub q : ℕ
+  pub is : goal ≡ done u w q
+  pub answered : Answered u w q g s m rep
+
+pub done_ok : (goal : Result Usage) {g : Ground} {s : List ℕ} {m : Merged} {rep : Report} → Done goal g s (Ok m) rep → Reached goal g s m rep
+done_ok (refused k) D = absurd D
+done_ok (done u w q) D = record { u = u; w = w; q = q; is = refl; answered = D }
+
+pub done_err : (goal : Result Usage) (g : Ground) (s : List ℕ) (e : SizeRefusal) (rep : Report) → Done goal g s (Err e) rep → goal ≡ refused (number_of e)
+done_err (refused k) g s e rep D = rw D refl
+done_err (done u w q) g s e rep D = absurd D
+
+pub refused_done : (goal : Result Usage) (g : Ground) (s : List ℕ) (e : SizeRefusal) (rep : Report) → goal ≡ refused (number_of e) → Done goal g s (Err e) rep
+refused_done goal g s e rep is = rw is refl
