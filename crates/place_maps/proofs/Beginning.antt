@@ -22,23 +22,29 @@ use Rattle.links.specs.Frames.{Kept}
 use Rattle.links.proofs.Stands.{stands_le, row_le, up_le, stands_still, row_still, down_still, up_still}
 use Rattle.links.proofs.Frames.{kept_trans, kept_widen, apart}
 use Rattle.links.proofs.Ranks.{rot_kept, rot_right, row_left}
-use Rattle.links.proofs.Rows.{rev_twice}
+use Rattle.links.proofs.Rows.{down_none, rev_twice}
 use Rattle.links.proofs.Shapes.{map_of}
 use Rattle.report.specs.Emitted.{Emitted}
+use Rattle.report.specs.declared.Report.{Report}
 use Rattle.place_states.specs.Calls.{Two, Beside}
 use Rattle.place_states.specs.Beyond.{joins, join_down, finish, UpTo, FromOn}
 use Rattle.place_states.specs.States.{Joins, Outside}
 use Rattle.place_states.specs.Starts.{Plain, Starts}
-use Rattle.place_states.specs.Ends.{refused_state}
+use Rattle.std.specs.Prelude.{Option, Some, None, Result as Returned, Ok, Err}
+use Rattle.std.specs.Option.{ok_or}
+use Rattle.place_states.specs.declared.SizeRefusal.{SizeRefusal}
 use Rattle.place_states.specs.declared.State.{State}
-use Rattle.place_states.proofs.Ending.{next_refused}
+use Rattle.place_states.specs.declared.TheConstants.State.{NONE}
+use Rattle.place_states.specs.declared.SizeRefusal.TheVariants.{Past32}
+use Rattle.place_states.specs.declared.Todo.TheVariants.{Go}
+use Rattle.place_states.specs.declared.Rule.TheVariants.{Join as ByJoin}
 use Rattle.place_states.proofs.Roots.{left_root, right_size, right_plain}
 use Rattle.place_states.proofs.Room.{room_first}
 use Rattle.place_search.specs.Numbers.{Marks, Past}
 use Rattle.place_search.specs.Parts.{Listed, Ended, nothing, by, Parted, Parts}
 use Rattle.place_search.specs.declared.Overlap.{Overlap}
 use Rattle.place_states.proofs.Falling.{few_entries}
-use Rattle.place_maps.specs.Runs.{Run, Turned}
+use Rattle.place_maps.specs.Runs.{Ahead, Run, Turned}
 use Rattle.place_maps.proofs.Entries.{append_assoc, under_of, upto_one_more}
 use Rattle.place_maps.proofs.Roots.{root_same}
 use Rattle.place_maps.proofs.Overlaps.{Starting, high_starting, found_past, found_parts}
@@ -85,23 +91,29 @@ listed {a} B c =
       linkable = B.linkable;
     }
 
-parted_nodes : {es : Entries} {r : ℕ → ℕ} {lo hi : ℕ} {s : List ℕ} {a d : ℕ} {e : Size} {b : Overlap} (G : Parted es r lo hi s a d e b)
+parted_nodes : {es : Entries} {r : ℕ → ℕ} {lo hi : ℕ} {s : List ℕ} {a d : ℕ} {e : Size} {b : Overlap} {c : Bool} (G : Parted es r lo hi s a d e b c)
     → nodes_in es ≡ nodes_in (onto G.low_down none) + nodes_in G.mid + nodes_in G.high
 parted_nodes G = omega (arith, ap nodes_in G.is, append_nodes (onto G.low_down none) (G.mid <+> G.high), append_nodes G.mid G.high)
 
 -- those that overlap, and those above
-pub run_of : {s : List ℕ} {a d b e : ℕ} {found : Overlap} → Beside s a b → command_in s a ≡ 3 → Marks e (ends d (size_in s b)) → Parts s a d e found → Run s found.first found.above
-run_of {s} {a} {d} {b} B c M F =
+stood : {es : Entries} {r : ℕ → ℕ} {lo hi : ℕ} {s : List ℕ} {a d : ℕ} {e : Size} {b : Overlap} {c : Bool} (G : Parted es r lo hi s a d e b c) → Ahead true G.mid G.high none r G.m G.m G.n hi s b.first b.above 0
+stood {r = r} {s = s} G = record { run = G.mid_held; rest = G.high_held; back = (down_none s r G.m, refl) }
+
+pub run_of : {s : List ℕ} {a d b e : ℕ} {o : Option Overlap} {found : Overlap} → Beside s a b → command_in s a ≡ 3 → Marks e (ends d (size_in s b)) → Parts s a d e o → o ≡ Some found → Run s found.first found.above 0
+run_of {s} {a} {d} {b} {e} B c M F eo =
     let A = mapped B.two c in
-    let G = F.parted (ends d (size_in s b)) A.es B.r (suc (B.r a)) B.mid M A.row A.finger in
+    let G = (subst (Parts s a d e) eo F).parted (ends d (size_in s b)) A.es B.r (suc (B.r a)) B.mid M A.row A.finger in
     record {
+      up = true;
       es = G.mid;
       fs = G.high;
+      gs = none;
       r = B.r;
-      lo = G.m;
+      y = G.m;
+      n = G.m;
       m = G.n;
-      hi = B.mid;
-      ahead = record { run = G.mid_held; row = G.high_held };
+      z = B.mid;
+      ahead = stood G;
       few = omega (arith, A.count_is, B.two.few, parted_nodes G, few_entries G.mid, few_entries G.high);
       linkable = B.linkable;
     }
@@ -137,55 +149,58 @@ from_starting d y none h = tt
 from_starting d dynamic (entry o u es) h = absurd (false≢true h.0)
 from_starting d (fixed n) (entry o u es) h = (omega (arith, leb-true (d + n) o h.0), from_starting d (fixed n) es h.1)
 
+-- What the search gave, as a result
+
+pub is_found : (o : Option Overlap) (x : SizeRefusal) {r : Returned Overlap SizeRefusal} {found : Overlap} → r ≡ ok_or o x → r ≡ Ok found → o ≡ Some found
+is_found None x e h = cc
+is_found (Some y) x e h = cc
+
+pub not_found : (o : Option Overlap) (x : SizeRefusal) {y : SizeRefusal} {r : Returned Overlap SizeRefusal} → r ≡ ok_or o x → r ≡ Err y → (o ≡ None) × (y ≡ x)
+not_found None x e h = (refl, cc)
+not_found (Some b) x e h = cc
+
 -- Refused
 
-module _ {s : List ℕ} {a d b e : ℕ} (rep : List ℕ) (at : ℕ) {st : State} (P : Plain (command_in s b) d) (c : command_in s a ≡ 3) (M : Marks e (ends d (size_in s b))) (f : st ≡ refused_state 9) where
+module _ {s : List ℕ} {a d b e : ℕ} (rep : Report) (P : Plain (command_in s b) d) (c : command_in s a ≡ 3) (M : Marks e (ends d (size_in s b))) where
   refuses : ((setting : Setting) (z : Size) (es : Entries) (r : ℕ → ℕ) (lo mid : ℕ) (u : Usage) → Marks e (ends d (size u)) → Row es s (child_in s a) 0 r lo mid → Finger es s a
-      → Storable (length setting.table) (map z es) → place_in_map setting (place setting) z es d u ≡ refused 9) → Starts s a d b rep at s rep st
-  refuses why = rw f (record {
-    todo = omega arith;
+      → Storable (length setting.table) (map z es) → place_in_map setting (place setting) z es d u ≡ refused 9) → Starts s a d b rep s rep (Err Past32)
+  refuses why = record {
     next = λ setting t u r lo mid hi two short.
         let A = mapped two c in
-        let goal : after [] 1 (place_by_kind setting (place setting) t d u) ≡ refused 9 =
-        ap (after [] 1) (into_map setting two A P ∙ why setting A.z A.es r (suc (r a)) mid u (rw (right_size two) at M) A.row A.finger A.fits) in
-        rw goal (next_refused setting _ (nodes t + nodes u) s rep a 9 (omega arith));
-  })
+        ap (after [] 1) (into_map setting two A P ∙ why setting A.z A.es r (suc (r a)) mid u (rw (right_size two) at M) A.row A.finger A.fits);
+  }
 
-  pub refused_end : {r : Bool} → Past e r → r ≡ true → Starts s a d b rep at s rep st
+  pub refused_end : {r : Bool} → Past e r → r ≡ true → Starts s a d b rep s rep (Err Past32)
   refused_end T t = refuses (λ setting z es r lo mid u N h g k. map_past setting z es d u (sym (T.of (ends d (size u)) N) ∙ t))
 
-  pub refused_entry : {found : Overlap} {r : Bool} → d < 4294967296 → Past e r → r ≡ false → Parts s a d e found → found.past ≡ true → Starts s a d b rep at s rep st
-  refused_entry small T t F p = refuses (λ setting z es r lo mid u N h g k.
+  pub refused_entry : {o : Option Overlap} {r : Bool} {x : Returned State SizeRefusal} → d < 4294967296 → Past e r → r ≡ false → Parts s a d e o → o ≡ None → x ≡ Err Past32 → Starts s a d b rep s rep x
+  refused_entry small T t F eo ex = rw ex (refuses (λ setting z es r lo mid u N h g k.
       let y : Size = ends d (size u) in
-      let X = F.parted y es r lo mid N h g in
+      let X = ((subst (Parts s a d e) eo F).parted y es r lo mid N h g).1 in
       let low : Entries = onto X.low_down none in
       map_fine setting z es d u (sym (T.of y N) ∙ t)
       ∙ ap (λ x. join_found setting (place setting) z d u (overlapping d y x)) X.is
-      ∙ ap (join_found setting (place setting) z d u) (found_past d y low X.mid X.high (omega arith) X.low_ended X.mid_crossing (high_starting (length setting.table) X k.1) (sym X.mid_past ∙ p)))
+      ∙ ap (join_found setting (place setting) z d u) (found_past d y low X.mid X.high (omega arith) X.low_ended X.mid_crossing (high_starting (length setting.table) X k.1) (sym X.mid_past))))
 
 -- Begun
 
 abbrev pub start_state : Overlap → ℕ → ℕ → ℕ → ℕ → ℕ → State
-start_state found d b rest base at = record {
-  refusal = 0;
-  todo = 1;
-  rule = 6;
+start_state found d b rest base mark = record NONE {
+  todo = Go;
+  rule = ByJoin;
   x = b;
-  d = 0;
-  m = 0;
   offset = d;
   rest = rest;
   q = found.above;
   low = found.low;
   pairings = 1;
   base = base;
-  mark = at;
-  at = at;
+  mark = mark;
 }
 
 -- s₁: those that overlap are linked downwards
-module _ (s s₁ : List ℕ) (a d b at next rest e : ℕ) (found : Overlap) {t : Bool} (small : d < 4294967296) (P : Plain (command_in s b) d) (c : command_in s a ≡ 3) (M : Marks e (ends d (size_in s b)))
-    (T : Past e t) (fits : t ≡ false) (F : Parts s a d e found) (fine : found.past ≡ false) (len : length s₁ ≡ length s) (X : Turned s found.first found.above s₁ rest) where
+module _ (s s₁ : List ℕ) (a d b base mark rest e : ℕ) (found : Overlap) {o : Option Overlap} {t : Bool} (small : d < 4294967296) (P : Plain (command_in s b) d) (c : command_in s a ≡ 3) (M : Marks e (ends d (size_in s b)))
+    (T : Past e t) (fits : t ≡ false) (F : Parts s a d e o) (eo : o ≡ Some found) (len : length s₁ ≡ length s) (X : Turned s found.first found.above 0 s₁ rest) where
   record Begun (k : ℕ) (y u : Usage) (r : ℕ → ℕ) (lo hi : ℕ) : Type 0 where
     z : Size
     low : Entries
@@ -196,12 +211,12 @@ module _ (s s₁ : List ℕ) (a d b at next rest e : ℕ) (found : Overlap) {t :
     m : ℕ
     n : ℕ
     stands : Stands u s₁ b rank m n
-    outside : Joins k z low mid high d s₁ a (start_state found d b rest at next) rank lo m n hi
+    outside : Joins k z low mid high d s₁ a (start_state found d b rest base mark) rank lo m n hi
     counted : suc (nodes_in low + nodes_in mid + nodes_in high) ≡ nodes y
     comes : (setting : Setting) → finish setting (joins z low mid high d) u [] 0 ≡ after [] 1 (place_by_kind setting (place setting) y d u)
 
   module _ {k : ℕ} {r : ℕ → ℕ} {lo mid hi : ℕ} {y u : Usage} (two : Two k s a b r lo mid hi y u) (A : Mapped k y s a r lo mid) (N : Marks e (ends d (size u)))
-      (G : Parted A.es r (suc (r a)) mid s a d (ends d (size u)) found) where
+      (G : Parted A.es r (suc (r a)) mid s a d (ends d (size u)) found false) where
     abbrev low : Entries
     low = onto G.low_down none
 
@@ -214,7 +229,7 @@ module _ (s s₁ : List ℕ) (a d b at next rest e : ℕ) (found : Overlap) {t :
         into_map setting two A P
         ∙ map_fine setting A.z A.es d u (sym (T.of f N) ∙ fits)
         ∙ ap (λ x. join_found setting (place setting) A.z d u (overlapping d f x)) G.is
-        ∙ found_parts d f low G.mid G.high (omega arith) G.low_ended G.mid_crossing high_later setting (place setting) A.z u (sym G.mid_past ∙ fine)
+        ∙ found_parts d f low G.mid G.high (omega arith) G.low_ended G.mid_crossing high_later setting (place setting) A.z u (sym G.mid_past)
         ∙ ap (rebuilt A.z low G.high) (join_down_lem setting G.mid d u)
 
     begun_from : Begun k y u r lo hi
@@ -222,7 +237,7 @@ module _ (s s₁ : List ℕ) (a d b at next rest e : ℕ) (found : Overlap) {t :
     begun_from =
         let up : Ascends k 0 (low <+> G.mid <+> G.high) = rw G.is at A.fits.1 in
         let R = A.root in
-        let B = X.back G.mid G.high r G.m G.n mid (record { run = G.mid_held; row = G.high_held }) in
+        let B = X.back true G.mid G.high none r G.m G.m G.n mid (stood G) in
         let K : Kept s r s₁ r G.m G.n = B.kept in
         let am = up_le G.low_down s a found.low r (suc (r a)) G.m G.low_held in
         let mn = row_le G.mid s found.first found.above r G.m G.n G.mid_held in
@@ -255,7 +270,7 @@ module _ (s s₁ : List ℕ) (a d b at next rest e : ℕ) (found : Overlap) {t :
             m = G.m;
             low_held = subst (λ (x : ℕ). Up G.low_down s₁ a found.low r' (suc x) G.m) (sym w.1)
                 (up_still G.low_down s s₁ a found.low r r' (suc (r a)) G.m len (ap (λ (x : Cell). x.child) w.0) (apart s s₁ r r' G.m hi (suc (r a)) G.m J (omega arith)) G.low_held);
-            mid_held = down_still (onto G.mid none) s₁ s₁ rest r r' G.m G.n refl (apart s₁ s₁ r r' G.n hi G.m G.n K' (omega arith)) B.down;
+            mid_held = down_still (onto G.mid none) s₁ s₁ rest r r' G.m G.n refl (apart s₁ s₁ r r' G.n hi G.m G.n K' (omega arith)) B.line.0;
             high_held = row_left s₁ r G.n mid hi h₁ h₂ G.high found.above 0
                 (row_still G.high s s₁ found.above 0 r r G.n mid len (apart s s₁ r r G.m G.n G.n mid K (omega arith)) G.high_held);
             ascends = up;
@@ -271,17 +286,15 @@ module _ (s s₁ : List ℕ) (a d b at next rest e : ℕ) (found : Overlap) {t :
   begun {r} {mid} {u} two =
       let A = mapped two c in
       let N : Marks e (ends d (size u)) = rw (right_size two) at M in
-      begun_from two A N (F.parted (ends d (size u)) A.es r (suc (r a)) mid N A.row A.finger)
+      begun_from two A N ((subst (Parts s a d e) eo F).parted (ends d (size u)) A.es r (suc (r a)) mid N A.row A.finger)
 
-  pub begun_starts : {rep rep' : List ℕ} → Emitted rep at (0x30 ∷ []) rep' next → Starts s a d b rep at s₁ rep' (start_state found d b rest at next)
+  pub begun_starts : {rep rep' : Report} → base ≡ rep.at → Emitted rep (0x30 ∷ []) rep' → Starts s a d b rep s₁ rep' (Ok (start_state found d b rest base mark))
   unfolding Outside
-  begun_starts E = record {
-    todo = omega arith;
+  begun_starts is-base E = record {
     next = λ setting y u r lo mid hi two short.
         let G = begun two in
         record {
-          ends = λ z. absurd (omega arith);
-          holds = λ _. record {
+          ahead = record {
             y = joins G.z G.low G.mid G.high d;
             u = u;
             w = [];
@@ -299,11 +312,10 @@ module _ (s s₁ : List ℕ) (a d b at next rest e : ℕ) (found : Overlap) {t :
               pairs = omega arith;
               brief = omega arith;
               room = omega (arith, room_first u (map G.z G.mid) (omega (arith, two.few, G.counted)));
-              based = refl;
+              based = is-base;
               report = E;
               outside = G.outside;
             };
           };
-          goes = λ z. absurd (omega arith);
         };
   }

@@ -9,6 +9,7 @@ use Rattle.definitions.specs.Place.{ends}
 use Rattle.definitions.proofs.PlaceFuel.{merge_mem_is}
 use Rattle.records.specs.Records.{size_in}
 use Rattle.place_states.specs.Beyond.{act}
+use Rattle.place_states.specs.declared.Todo.TheVariants.{Place, Merge}
 use Rattle.place_search.specs.Numbers.{Marks}
 use Rattle.place_search.proofs.Marking.{marks_le, marks_lt}
 use Rattle.place_maps.specs.Joining.{apart, into_entry, into_b, Joint}
@@ -26,10 +27,10 @@ module _ {s : List ℕ} {l x o d y z : ℕ} (M : Marks y (ends o (size_in s l)))
   unfolding when◌then◌else◌ into_entry
   entry_takes lt le = record { comes = λ st u b w p eu eb. rw (ne_eqb o d (omega arith), lt-ltb o d lt, eu, eb, marks_le (ends d (size_in s x)) (ends o (size_in s l)) N M le) }
 
-  pub b_takes : d < o → y ≤ z → Joint s l x o d (into_b 2 o d)
+  pub b_takes : d < o → y ≤ z → Joint s l x o d (into_b Place o d)
   unfolding when◌then◌else◌ into_b act
   b_takes lt le = record { comes = λ st u b w p eu eb. rw (ne_eqb o d (omega arith), le-ltb o d (omega arith), eu, eb, marks_le (ends o (size_in s l)) (ends d (size_in s x)) M N le) }
 
-pub b_merges : (s : List ℕ) (l x o d : ℕ) → o ≤ d → d ≤ o → Joint s l x o d (into_b 3 o d)
+pub b_merges : (s : List ℕ) (l x o d : ℕ) → o ≤ d → d ≤ o → Joint s l x o d (into_b Merge o d)
 unfolding when◌then◌else◌ into_b act
 b_merges s l x o d le ge = record { comes = λ st u b w p eu eb. rw (eq-eqb o d (omega arith), merge_mem_is st b u) }

@@ -2,6 +2,7 @@
 -- Assumes nothing.
 use Prim.Native.Nat.{ℕ, suc}
 use mathlib.Core.Path.{◌≡◌, refl, sym, ap, ◌∙◌, subst}
+use mathlib.Core.Bool.{false}
 use mathlib.Core.List.{List, []}
 use lib.ListN.{length}
 use native.Mathlib.Omega.{arith}
@@ -10,21 +11,23 @@ use Rattle.definitions.specs.Place.{done, after, insert, of_rule, straddle_confl
 use Rattle.definitions.specs.Sound.{Ascends}
 use Rattle.records.specs.Records.{Cell, cell, next_in, offset_in, with_next, with_offset, Set}
 use Rattle.links.specs.Standing.{Stands, Row}
-use Rattle.links.specs.Rows.{Up, onto}
+use Rattle.links.specs.Rows.{Down, Up, onto}
 use Rattle.links.specs.Frames.{Kept}
 use Rattle.links.proofs.Stands.{stands_root, stands_le, row_le, down_le, up_le, row_low, up_still, row_still}
 use Rattle.links.proofs.Frames.{kept_trans, kept_set, kept_widen, apart, set_trans}
 use Rattle.links.proofs.Changes.{stands_relink}
-use Rattle.links.proofs.Rows.{row_one, bottom, rev_app}
+use Rattle.links.proofs.Rows.{row_one, bottom, down_none, rev_app}
 use Rattle.report.specs.Emitted.{Emitted}
 use Rattle.report.proofs.Emitting.{emitted_over}
+use Rattle.report.specs.declared.Report.{Report}
 use Rattle.place_states.specs.Beyond.{joins, finish}
 use Rattle.place_states.specs.States.{Joins, Waiting, Moves}
 use Rattle.place_states.specs.Ends.{finished_state, Unheaded}
 use Rattle.place_states.specs.declared.State.{State}
+use Rattle.place_states.specs.declared.Rule.TheVariants.{Join as ByJoin}
 use Rattle.place_states.proofs.Ending.{next_finished, moves_finished, emitted_unheaded}
 use Rattle.place_states.proofs.Falling.{few_entries}
-use Rattle.place_maps.specs.Runs.{Both, Fallen, Restored}
+use Rattle.place_maps.specs.Runs.{Ahead, Run, Turned}
 use Rattle.place_maps.specs.Joining.{without, Passed, Made, Closed, Entered, apart as straddling, Joint, Straddled}
 use Rattle.place_maps.proofs.Entries.{onto_nodes}
 use Rattle.place_maps.proofs.Roots.{root_same}
@@ -34,8 +37,12 @@ use Rattle.place_maps.proofs.Stepping.{by_joins, waits, taken, finish_joint, out
 
 -- A straddle
 
+-- those below, linked downwards, and those above
+hangs : (fs gs : Entries) (r : ℕ → ℕ) (m n hi : ℕ) (s : List ℕ) (p q : ℕ) → Down fs s p r m n → Row gs s q 0 r n hi → Ahead false fs none gs r hi n m m s p 0 q
+hangs fs gs r m n hi s p q D W = record { run = (D, refl); rest = (down_none s r m, refl); back = W }
+
 -- what is to be linked upwards again
-pub fallen : (s : List ℕ) (a : ℕ) (st : State) (left : ℕ) → Waiting s a st → st.rule ≡ 6 → (st.rest ≡ 0 → ⊥) → left ≡ next_in s st.rest → Fallen s left st.q
+pub fallen : (s : List ℕ) (a : ℕ) (st : State) (left : ℕ) → Waiting s a st → st.rule ≡ ByJoin → (st.rest ≡ 0 → ⊥) → left ≡ next_in s st.rest → Run s left 0 st.q
 fallen s a st left W e ne el =
     let X = waits s a st W e in
     let J = X.joins in
@@ -43,41 +50,42 @@ fallen s a st left W e ne el =
     let nc = stands_le A.u s st.rest X.r A.n X.c A.stands in
     let ce = stands_le X.u s st.x X.r X.c X.e X.stands in
     rw el (record {
+      up = false;
       es = A.init_down;
-      fs = X.high;
+      fs = none;
+      gs = X.high;
       r = X.r;
-      lo = J.m;
-      m = A.n;
-      hi = X.hi;
-      both = record { down = A.down; row = row_low X.high s st.q 0 X.r X.e A.n X.hi (omega arith) J.high_held };
+      y = X.hi;
+      n = A.n;
+      m = J.m;
+      z = J.m;
+      ahead = hangs A.init_down X.high X.r J.m A.n X.hi s (next_in s st.rest) st.q A.down (row_low X.high s st.q 0 X.r X.e A.n X.hi (omega arith) J.high_held);
       few = omega (arith, X.few, few_entries A.init_down, onto_nodes A.init_down none, outer_less J A 0);
       linkable = W.linkable;
     })
 
 -- s₁: they are linked upwards; s₂: the map has them
-pub straddled : {s rep : List ℕ} {a : ℕ} {st : State} {o : ℕ} {s₁ s₂ rep' : List ℕ} {st' : State} {left head at : ℕ} → left ≡ next_in s st.rest → length s₁ ≡ length s
-    → Restored s left st.q s₁ head → Closed s₁ a st.low head s₂ → Emitted rep st.base (straddle_conflict o st.offset) rep' at → st' ≡ finished_state a st.pairings at
+pub straddled : {s : List ℕ} {rep : Report} {a : ℕ} {st : State} {o : ℕ} {s₁ s₂ : List ℕ} {rep' : Report} {st' : State} {left head : ℕ} → left ≡ next_in s st.rest → length s₁ ≡ length s
+    → Turned s left 0 st.q s₁ head → Closed s₁ a st.low head s₂ → Emitted (record rep { at = st.base }) (straddle_conflict o st.offset) rep' → st' ≡ finished_state a st.pairings
     → Straddled s rep a st o s₂ rep' st'
-straddled {s} {a} {st} {s₁} {s₂} {left} {head} {at} el len H C E f = record {
-  at = at;
+straddled {s} {rep} {a} {st} {o} {s₁} {s₂} {rep'} {st'} {left} {head} el len H C E f = record {
   state = f;
   report = E;
   made = λ z es fs gs r lo m n hi R U D W.
-      let B : Both fs gs r m n hi s left st.q = record { down = rw el D; row = W } in
-      let X = H.whole fs gs r m n hi B in
+      let X = H.back false fs none gs r hi n m m (hangs fs gs r m n hi s left st.q (rw el D) W) in
       let am = up_le es s a st.low r (suc (r a)) m U in
       let mn = down_le fs s (next_in s st.rest) r m n D in
       let nh = row_le gs s st.q 0 r n hi W in
       let ca : cell s₁ a ≡ cell s a = (X.kept.outs a (omega arith)).0 in
       let U₁ : Up es s₁ a st.low r (suc (r a)) m = up_still es s s₁ a st.low r r (suc (r a)) m len (ap (λ (x : Cell). x.child) ca) (apart s s₁ r r m n (suc (r a)) m X.kept (omega arith)) U in
-      let M : Made (map z (onto es (onto fs gs))) s₁ a r lo hi s₂ = C.made z es (onto fs gs) r lo m hi (root_same s s₁ a r r lo hi hi 3 z len ca refl R.high R) U₁ X.row in
+      let M : Made (map z (onto es (onto fs gs))) s₁ a r lo hi s₂ = C.made z es (onto fs gs) r lo m hi (root_same s s₁ a r r lo hi hi 3 z len ca refl R.high R) U₁ X.line in
       record { stands = M.stands; kept = kept_trans s s₁ s₂ r r r lo hi (kept_widen s s₁ r r m n lo hi (omega (arith, R.low)) nh X.kept) M.kept };
 }
 
-pub straddles : (s rep : List ℕ) (a : ℕ) (st : State) {s' rep' : List ℕ} {st' : State} → st.rule ≡ 6 → (st.rest ≡ 0 → ⊥)
+pub straddles : (s : List ℕ) (rep : Report) (a : ℕ) (st : State) {s' : List ℕ} {rep' : Report} {st' : State} → st.rule ≡ ByJoin → (st.rest ≡ 0 → ⊥)
     → Joint s st.rest st.x (offset_in s st.rest) st.offset (straddling (offset_in s st.rest) st.offset) → Straddled s rep a st (offset_in s st.rest) s' rep' st' → Moves s rep a st s' rep' st'
 unfolding straddling
-straddles s rep a st {s'} {rep'} e ne Jt T = moves_finished s rep a st s' rep' _ a st.pairings T.at T.state (by_joins _ _ _ _ _ _ _ e (λ setting z low mid high b w p g n le S J short.
+straddles s rep a st {s'} {rep'} e ne Jt T = moves_finished s rep a st s' rep' _ a st.pairings T.state (by_joins _ _ _ _ _ _ _ e (λ setting z low mid high b w p g n le S J short.
     let o : ℕ = offset_in s st.rest in
     let d : ℕ = st.offset in
     let r : ℕ → ℕ = S.rank in
@@ -92,8 +100,7 @@ straddles s rep a st {s'} {rep'} e ne Jt T = moves_finished s rep a st s' rep' _
     let M = T.made z J.low_down A.init_down high r g.lo J.m A.n g.hi (root_same s s a r r g.lo S.c g.hi 3 z refl refl refl (omega (arith, J.root.high)) J.root) J.low_held A.down
     (row_low high s st.q 0 r S.e A.n g.hi (omega arith) J.high_held) in
     let is : onto J.low_down (onto A.init_down high) ≡ low <+> init <+> high = rev_app J.low_down (onto A.init_down high) ∙ ap (λ x. x <+> onto A.init_down high) (sym J.low_is) ∙ ap (λ x. low <+> x) (rev_app A.init_down high) in
-    rw goal (next_finished setting g n s' rep' a (after [] 1 (done (map z (low <+> init <+> high)) (straddle_conflict o d) p)) a st.pairings T.at (record {
-      answered = refl;
+    rw goal (next_finished setting g n s' rep' a (after [] 1 (done (map z (low <+> init <+> high)) (straddle_conflict o d) p)) a st.pairings (record {
       rank = r;
       kept = kept_trans g.bytes s s' g.rank r r g.lo g.hi S.kept M.kept;
       stands = subst (λ (x : Entries). Stands (map z x) s' a r g.lo g.hi) is M.stands;
@@ -104,9 +111,9 @@ straddles s rep a st {s'} {rep'} e ne Jt T = moves_finished s rep a st s' rep' _
 -- The end
 
 -- s₁, s₂: b has its offset, and is linked to those above; s₃: the map has it
-module _ (s s₁ s₂ s₃ : List ℕ) (a : ℕ) (st : State) (above at : ℕ) (e : st.rule ≡ 6) (z : st.rest ≡ 0) (l₁ : length s₁ ≡ length s) (l₂ : length s₂ ≡ length s₁) (P : Passed s st.q st.offset above)
+module _ (s s₁ s₂ s₃ : List ℕ) (rep rep' : Report) (a : ℕ) (st : State) (above : ℕ) (e : st.rule ≡ ByJoin) (z : st.rest ≡ 0) (l₁ : length s₁ ≡ length s) (l₂ : length s₂ ≡ length s₁) (P : Passed s st.q st.offset above)
     (C₁ : Set s s₁ st.x (with_offset st.offset (cell s st.x))) (C₂ : Set s₁ s₂ st.x (with_next above (cell s₁ st.x))) (N : Entered s₂ a st.low st.x st.offset s₃)
-    (U : Unheaded st.base st.at at) where
+    (U : Unheaded st.base rep rep') where
   len : length s₂ ≡ length s
   len = l₂ ∙ l₁
 
@@ -145,16 +152,15 @@ module _ (s s₁ s₂ s₃ : List ℕ) (a : ℕ) (st : State) (above at : ℕ) (
         kept = kept_trans s s₂ s₃ r r r lo hi (kept_widen s s₂ r r c f lo hi (omega (arith, R.low, R.high)) fh K) M.kept;
       }
 
-  pub ends : (rep : List ℕ) {st' : State} → st' ≡ finished_state a st.pairings at → Moves s rep a st s₃ rep st'
+  pub ends : {st' : State} → st' ≡ finished_state a st.pairings → Moves s rep a st s₃ rep' st'
   unfolding onto
-  ends rep f = moves_finished s rep a st s₃ rep _ a st.pairings at f (by_joins _ _ _ _ _ _ _ e (λ setting y low mid high b w p g n le S J short.
+  ends f = moves_finished s rep a st s₃ rep' _ a st.pairings f (by_joins _ _ _ _ _ _ _ e (λ setting y low mid high b w p g n le S J short.
       let nothing : mid ≡ none = J.mid_is ∙ ap (λ q. onto q none) (bottom J.mid_down s st.rest S.rank J.m S.c z J.mid_held) in
       let d : ℕ = st.offset in
       let goal = finish_none setting y low high d b w p nothing in
       let fits = rw goal at short in
       let M = whole b J S.stands in
-      rw goal (next_finished setting g n s₃ rep a (after [] 1 (done (map y (insert d b (low <+> high))) (of_rule w) p)) a st.pairings at (record {
-        answered = refl;
+      rw goal (next_finished setting g n s₃ rep' a (after [] 1 (done (map y (insert d b (low <+> high))) (of_rule w) p)) a st.pairings (record {
         rank = S.rank;
         kept = kept_trans g.bytes s s₃ g.rank S.rank S.rank g.lo g.hi S.kept M.kept;
         stands = M.stands;

@@ -22,11 +22,6 @@ unfolding onto
 onto_nodes none fs = omega arith
 onto_nodes (entry o u es) fs = omega (arith, onto_nodes es (entry o u fs))
 
-pub onto_count : (es fs : Entries) → count (onto es fs) ≡ count es + count fs
-unfolding onto
-onto_count none fs = omega arith
-onto_count (entry o u es) fs = omega (arith, onto_count es (entry o u fs))
-
 -- every offset is below d
 abbrev pub Under : ℕ → Entries → Type 0
 Under d none = Unit {0}

@@ -4,7 +4,7 @@ pub mod Downward
 pub mod Inserting
 pub mod Overlaps
 pub mod Turning
-pub mod Restoring
+pub mod Lines
 pub mod Roots
 pub mod Linking
 pub mod Stepping

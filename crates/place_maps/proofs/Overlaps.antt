@@ -35,7 +35,7 @@ starting : (k : ℕ) (e : Size) (es : Entries) (p : ℕ) → Starts e es → Asc
 starting k e none p h c = tt
 starting k e (entry o u es) p h c = starting_from k e (entry o u es) o h (omega arith, c.1, c.2, c.3)
 
-pub high_starting : (k : ℕ) {es : Entries} {r : ℕ → ℕ} {lo hi : ℕ} {s : List ℕ} {a d : ℕ} {e : Size} {b : Overlap} (P : Parted es r lo hi s a d e b) → Ascends k 0 es → Starting e P.high
+pub high_starting : (k : ℕ) {es : Entries} {r : ℕ → ℕ} {lo hi : ℕ} {s : List ℕ} {a d : ℕ} {e : Size} {b : Overlap} {c : Bool} (P : Parted es r lo hi s a d e b c) → Ascends k 0 es → Starting e P.high
 high_starting k {e} P c =
     let low : Entries = onto P.low_down none in
     starting k e P.high 0 P.high_starts (ascends_back k P.mid P.high 0 (ascends_back k low (P.mid <+> P.high) 0 (rw P.is at c)))

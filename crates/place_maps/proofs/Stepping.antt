@@ -18,9 +18,12 @@ use Rattle.links.specs.Standing.{Stands, Row}
 use Rattle.links.specs.Rows.{Down, Up, onto, chain}
 use Rattle.links.proofs.Stands.{stands_root, down_le, up_le}
 use Rattle.links.proofs.Rows.{Top, top, rev_app}
+use Rattle.report.specs.declared.Report.{Report}
 use Rattle.place_states.specs.Beyond.{Beyond, entries, element, joins, finish, outer, UpTo, FromOn}
 use Rattle.place_states.specs.States.{Joins, Outside, Standing, Short, Next, Waiting}
 use Rattle.place_states.specs.declared.State.{State}
+use Rattle.place_states.specs.declared.Rule.{Rule}
+use Rattle.place_states.specs.declared.Rule.TheVariants.{Entries as ByEntries, Element as ByElement, Join as ByJoin}
 use Rattle.place_states.specs.Calls.{Ground}
 use Rattle.place_states.proofs.Falling.{few_entries, down_chain}
 use Rattle.place_maps.specs.Joining.{Within, Joint}
@@ -28,24 +31,30 @@ use Rattle.place_maps.proofs.Entries.{Under, append_assoc, onto_nodes, under_of,
 use Rattle.place_maps.proofs.Roots.{root_same}
 use Rattle.place_maps.proofs.Downward.{down_from, finish_last}
 
+other : {A : Type 0} {x : Rule} → x ≡ ByJoin → x ≡ ByEntries → A
+other e h = absurd (cc)
+
+another : {A : Type 0} {x : Rule} → x ≡ ByJoin → x ≡ ByElement → A
+another e h = absurd (cc)
+
 -- in rule 6 what is outside of b is a map
-module _ (s rep : List ℕ) (a : ℕ) (st : State) (s' rep' : List ℕ) (st' : State) where
+module _ (s : List ℕ) (rep : Report) (a : ℕ) (st : State) (s' : List ℕ) (rep' : Report) (st' : State) where
   abbrev StepsAt : Setting → Size → Entries → Entries → Entries → Usage → List ℕ → ℕ → Ground → ℕ → ℕ → Type 0
   StepsAt setting z low mid high b w p g n d =
       nodes b + outer (joins z low mid high d) ≤ n
       → (S : Standing (length setting.table) (joins z low mid high d) b w p g s rep a st)
       → Joins (length setting.table) z low mid high d s a st S.rank g.lo S.c S.e g.hi
-      → Short g.base (finish setting (joins z low mid high d) b w p)
+      → Short g.report.at (finish setting (joins z low mid high d) b w p)
       → Next setting (finish setting (joins z low mid high d) b w p) g n s' rep' a st'
 
-  pub by_joins : st.rule ≡ 6
+  pub by_joins : st.rule ≡ ByJoin
       → ((setting : Setting) (z : Size) (low mid high : Entries) (b : Usage) (w : List ℕ) (p : ℕ) (g : Ground) (n : ℕ) → StepsAt setting z low mid high b w p g n st.offset)
       → (setting : Setting) (y : Beyond) (u : Usage) (w : List ℕ) (p : ℕ) (g : Ground) (n : ℕ) → nodes u + outer y ≤ n
-      → Standing (length setting.table) y u w p g s rep a st → Short g.base (finish setting y u w p)
+      → Standing (length setting.table) y u w p g s rep a st → Short g.report.at (finish setting y u w p)
       → Next setting (finish setting y u w p) g n s' rep' a st'
   unfolding Outside
-  by_joins e f setting (entries es) u w p g n le S h = absurd (omega (arith, S.outside.rule))
-  by_joins e f setting (element z m) u w p g n le S h = absurd (omega (arith, S.outside.rule))
+  by_joins e f setting (entries es) u w p g n le S h = other e S.outside.rule
+  by_joins e f setting (element z m) u w p g n le S h = another e S.outside.rule
   by_joins e f setting (joins z low mid high d) u w p g n le S h =
       let J : Joins (length setting.table) z low mid high d s a st S.rank g.lo S.c S.e g.hi = S.outside in
       subst (StepsAt setting z low mid high u w p g n) J.offset (f setting z low mid high u w p g n) le S J h
@@ -67,13 +76,13 @@ pub record Waits (s : List ℕ) (a : ℕ) (st : State) : Type 0 where
   pub joins : Joins k z low mid high st.offset s a st r lo c e hi
   pub few : nodes_in mid + nodes_in high ≤ node_limit
 
-pub waits : (s : List ℕ) (a : ℕ) (st : State) → Waiting s a st → st.rule ≡ 6 → Waits s a st
+pub waits : (s : List ℕ) (a : ℕ) (st : State) → Waiting s a st → st.rule ≡ ByJoin → Waits s a st
 unfolding Outside
 waits s a st W e = go W.y W.outside W.few
   where
     go : (y : Beyond) → Outside W.k y s a st W.rank W.lo W.c W.e W.hi → nodes W.u + outer y ≤ node_limit → Waits s a st
-    go (entries es) h few = absurd (omega (arith, h.rule))
-    go (element z m) h few = absurd (omega (arith, h.rule))
+    go (entries es) h few = other e h.rule
+    go (element z m) h few = another e h.rule
     go (joins z low mid high d) h few = record {
       k = W.k;
       z = z;
@@ -108,7 +117,7 @@ unfolding Stands
 row_in none s q r lo hi le h = omega (arith, h.0)
 row_in (entry o u es) s q r lo hi le h = (stands_root u s q r lo h.0 h.2).inside
 
-pub within : (s : List ℕ) (a : ℕ) (st : State) → Waiting s a st → st.rule ≡ 6 → Within s a st
+pub within : (s : List ℕ) (a : ℕ) (st : State) → Waiting s a st → st.rule ≡ ByJoin → Within s a st
 within s a st W e =
     let X = waits s a st W e in
     let J = X.joins in
@@ -122,10 +131,10 @@ within s a st W e =
       linkable = W.linkable;
     }
 
-pub rest_in : (s : List ℕ) (a : ℕ) (st : State) → Waiting s a st → st.rule ≡ 6 → st.rest * 32 + 32 ≤ length s
+pub rest_in : (s : List ℕ) (a : ℕ) (st : State) → Waiting s a st → st.rule ≡ ByJoin → st.rest * 32 + 32 ≤ length s
 rest_in s a st W e = (within s a st W e).rest_in
 
-pub x_in : (s : List ℕ) (a : ℕ) (st : State) → Waiting s a st → st.rule ≡ 6 → st.x * 32 + 32 ≤ length s
+pub x_in : (s : List ℕ) (a : ℕ) (st : State) → Waiting s a st → st.rule ≡ ByJoin → st.x * 32 + 32 ≤ length s
 x_in s a st W e = (within s a st W e).x_in
 
 -- the highest of the entries to be joined, u, stands at record `rest`, and those below it are init
@@ -181,7 +190,7 @@ module _ {k : ℕ} {z : Size} {low mid high : Entries} {d : ℕ} {s : List ℕ} 
   outer_less A d' = omega (arith, ap nodes_in A.mid_is, append_nodes (onto A.init_down none) (entry (offset_in s st.rest) A.u none))
 
   -- what is outside of the next pair, once u and b have left it
-  pub joins_next : (A : Taken k low mid high s st r J.m c) (d' : ℕ) (st' : State) → st'.rule ≡ 6 → st'.offset ≡ d' → st'.rest ≡ next_in s st.rest → st'.q ≡ st.q → st'.low ≡ st.low
+  pub joins_next : (A : Taken k low mid high s st r J.m c) (d' : ℕ) (st' : State) → st'.rule ≡ ByJoin → st'.offset ≡ d' → st'.rest ≡ next_in s st.rest → st'.q ≡ st.q → st'.low ≡ st.low
       → UpTo d' low → FromOn d' high → d' ≤ max32 → Joins k z low (onto A.init_down none) high d' s a st' r lo A.n e hi
   joins_next A d' st' rule offset rest upper lowest low_by high_from fits =
       let am = up_le J.low_down s a st.low r (suc (r a)) J.m J.low_held in
@@ -206,7 +215,7 @@ module _ {k : ℕ} {z : Size} {low mid high : Entries} {d : ℕ} {s : List ℕ} 
       }
 
 -- one entry less is to be joined
-pub falls : (s : List ℕ) (a : ℕ) (st : State) → Waiting s a st → st.rule ≡ 6 → (st.rest ≡ 0 → ⊥) → chain 65536 s (next_in s st.rest) + 1 ≤ chain 65536 s st.rest
+pub falls : (s : List ℕ) (a : ℕ) (st : State) → Waiting s a st → st.rule ≡ ByJoin → (st.rest ≡ 0 → ⊥) → chain 65536 s (next_in s st.rest) + 1 ≤ chain 65536 s st.rest
 falls s a st W e ne =
     let X = waits s a st W e in
     let J = X.joins in

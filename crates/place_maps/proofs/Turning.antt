@@ -1,121 +1,121 @@
--- A run of entries is linked the other way round one by one: those that are done hang downwards, the others are as they were. Each
--- turn writes one record of the run, and what is done, what is not and what lies above have ranks apart from it.
+-- A line of entries is linked the other way round one by one: those that are done come the other way, the others are as they were. Each
+-- turn writes one record of the line, and what is done, what is not and what lies behind have ranks apart from it.
 -- Assumes nothing.
 use Prim.Native.Nat.{ℕ, suc, ◌+◌, ◌*◌, ◌<◌, ◌≤◌}
 use mathlib.Core.Path.{◌≡◌, refl, sym, ap, ◌∙◌, subst}
+use mathlib.Core.Bool.{Bool, not}
 use mathlib.Core.List.{List}
 use lib.ListN.{length}
 use native.Mathlib.Omega.{arith}
-use Rattle.definitions.specs.Usage.{Entries, none, entry, count, ◌<+>◌}
+use Rattle.definitions.specs.Usage.{Entries, none, entry, count}
 use Rattle.records.specs.Records.{Cell, cell, next_in, offset_in, with_next, Set}
-use Rattle.links.specs.Standing.{Row}
-use Rattle.links.specs.Rows.{Down, onto, chain}
+use Rattle.links.specs.Rows.{onto, chain}
 use Rattle.links.specs.Frames.{Kept}
-use Rattle.links.proofs.Stands.{stands_root, stands_le, row_le, down_le, stands_wide, row_still, down_still}
-use Rattle.links.proofs.Frames.{kept_none, kept_trans, kept_set, kept_widen, apart}
+use Rattle.links.proofs.Stands.{stands_root, stands_le}
+use Rattle.links.proofs.Frames.{kept_none, kept_trans, kept_set}
 use Rattle.links.proofs.Changes.{stands_relink}
-use Rattle.links.proofs.Rows.{Head, head, end, first_past, down_none, down_one, row_app, rev_twice}
-use Rattle.links.proofs.Chains.{chain_many}
-use Rattle.place_maps.specs.Runs.{Ahead, Run, Turned}
-use Rattle.place_maps.proofs.Entries.{onto_count, append_count}
+use Rattle.place_maps.specs.Runs.{Line, lower, Ahead, Run, Turned}
+use Rattle.place_maps.proofs.Lines.{line_le, lower_trans, First, first, line_one, line_ahead, line_behind, kept_between, line_end, line_wide, line_small, line_chain}
 
-pub record Turning (es fs : Entries) (r : ℕ → ℕ) (lo m hi : ℕ) (s₀ s : List ℕ) (e p last : ℕ) : Type 0 where
+pub record Turning (up : Bool) (es fs gs : Entries) (r : ℕ → ℕ) (y n m z : ℕ) (s₀ s : List ℕ) (e p last : ℕ) : Type 0 where
   pub done : Entries
   pub todo : Entries
-  pub n : ℕ
-  pub is : es ≡ onto done todo
-  pub down : Down done s last r lo n
-  pub run : Row todo s p e r n m
-  pub row : Row fs s e 0 r m hi
-  pub kept : Kept s₀ r s r lo m
+  pub k : ℕ
+  pub nk : lower up n k ≤ lower up k n
+  pub is : onto es gs ≡ onto todo done
+  pub few : count todo ≤ count es
+  pub ahead : Ahead up todo fs done r y k m z s p e last
+  pub kept : Kept s₀ r s r (lower up n m) (lower up m n)
 
-pub record Turns (s₀ : List ℕ) (q e : ℕ) (s : List ℕ) (p last : ℕ) : Type 0 where
-  pub from : Run s₀ q e
+pub record Turns (s₀ : List ℕ) (q e b : ℕ) (s : List ℕ) (p last : ℕ) : Type 0 where
+  pub from : Run s₀ q e b
   pub len : length s ≡ length s₀
   pub small : last < 65536
-  pub goes : (es fs : Entries) (r : ℕ → ℕ) (lo m hi : ℕ) → Ahead es fs r lo m hi s₀ q e → Turning es fs r lo m hi s₀ s e p last
+  pub goes : (up : Bool) (es fs gs : Entries) (r : ℕ → ℕ) (y n m z : ℕ) → Ahead up es fs gs r y n m z s₀ q e b → Turning up es fs gs r y n m z s₀ s e p last
 
-pub turns_start : (s : List ℕ) (q e : ℕ) → Run s q e → Turns s q e s q 0
-unfolding onto
-turns_start s q e R = record {
+pub turns_start : (s : List ℕ) (q e b : ℕ) → Run s q e b → Turns s q e b s q b
+turns_start s q e b R = record {
   from = R;
   len = refl;
-  small = omega arith;
-  goes = λ es fs r lo m hi A. record { done = none; todo = es; n = lo; is = refl; down = down_none s r lo; run = A.run; row = A.row; kept = kept_none s r lo m };
+  small = line_small (not R.up) R.gs s b R.r R.n R.y R.linkable R.ahead.back;
+  goes = λ up es fs gs r y n m z A. record { done = gs; todo = es; k = n; nk = omega arith; is = refl; few = omega arith; ahead = A; kept = kept_none s r (lower up n m) (lower up m n) };
 }
 
--- for the entries that are there
-known : (s₀ : List ℕ) (q e : ℕ) (s : List ℕ) (p last : ℕ) (T : Turns s₀ q e s p last) → Turning T.from.es T.from.fs T.from.r T.from.lo T.from.m T.from.hi s₀ s e p last
-known s₀ q e s p last T = T.goes T.from.es T.from.fs T.from.r T.from.lo T.from.m T.from.hi T.from.ahead
+module _ (s₀ : List ℕ) (q e b : ℕ) (s : List ℕ) (p last : ℕ) (T : Turns s₀ q e b s p last) where
+  abbrev R : Run s₀ q e b
+  R = T.from
 
-pub turns_in : (s₀ : List ℕ) (q e : ℕ) (s : List ℕ) (p last : ℕ) → Turns s₀ q e s p last → (p ≡ e → ⊥) → p * 32 + 32 ≤ length s
-turns_in s₀ q e s p last T ne =
-    let t = known s₀ q e s p last T in
-    let v = head t.todo s p e T.from.r t.n T.from.m ne t.run in
-    (stands_root v.u s p T.from.r t.n v.m v.stands).inside
+  -- for the entries that are there
+  known : Turning R.up R.es R.fs R.gs R.r R.y R.n R.m R.z s₀ s e p last
+  known = T.goes R.up R.es R.fs R.gs R.r R.y R.n R.m R.z R.ahead
 
-module _ (s₀ : List ℕ) (q e : ℕ) (s s' : List ℕ) (p last n' : ℕ) (T : Turns s₀ q e s p last) (ne : p ≡ e → ⊥) (en : n' ≡ next_in s p) (len : length s' ≡ length s)
-    (C : Set s s' p (with_next last (cell s p))) where
-  turn : (es fs : Entries) (r : ℕ → ℕ) (lo m hi : ℕ) → Turning es fs r lo m hi s₀ s e p last → Turning es fs r lo m hi s₀ s' e n' p
+  next_first : (p ≡ e → ⊥) → First R.up known.todo s p e R.r known.k R.m
+  next_first ne = first R.up known.todo s p e R.r known.k R.m ne known.ahead.run
+
+  pub turns_in : (p ≡ e → ⊥) → p * 32 + 32 ≤ length s
+  turns_in ne = let v = next_first ne in (stands_root v.u s p R.r (lower R.up known.k v.k) (lower R.up v.k known.k) v.stands).inside
+
+  module _ (s' : List ℕ) (n' : ℕ) (ne : p ≡ e → ⊥) (en : n' ≡ next_in s p) (len : length s' ≡ length s) (C : Set s s' p (with_next last (cell s p))) where
+    turn : (up : Bool) (es fs gs : Entries) (r : ℕ → ℕ) (y n m z : ℕ) → Turning up es fs gs r y n m z s₀ s e p last → Turning up es fs gs r y n m z s₀ s' e n' p
+    unfolding onto
+    turn up es fs gs r y n m z t =
+        let A = t.ahead in
+        let v : First up t.todo s p e r t.k m = first up t.todo s p e r t.k m ne A.run in
+        let lo = lower up t.k v.k in
+        let hi = lower up v.k t.k in
+        let S = stands_root v.u s p r lo hi v.stands in
+        let K : Kept s r s' r lo hi = kept_set s s' r lo hi p (with_next last (cell s p)) len S.low S.high C in
+        let km = line_le up v.rest s (next_in s p) e r v.k m v.line in
+        let less : count t.todo ≡ suc (count v.rest) = ap count v.is in
+        let back : Line (not up) t.done s' last 0 r t.k y = line_behind up t.done s s' last 0 r t.k v.k len K y A.back in
+        record {
+          done = entry (offset_in s p) v.u t.done;
+          todo = v.rest;
+          k = v.k;
+          nk = lower_trans up n t.k v.k t.nk (omega (arith, stands_le v.u s p r lo hi v.stands));
+          is = t.is ∙ ap (λ (x : Entries). onto x t.done) v.is;
+          few = omega (arith, t.few);
+          ahead = record {
+            run = subst (λ (x : ℕ). Line up v.rest s' x e r v.k m) (sym en) (line_ahead up v.rest s s' (next_in s p) e r t.k v.k len K v.k m (omega arith) v.line);
+            rest = line_ahead up fs s s' e 0 r t.k v.k len K m z km A.rest;
+            back = line_one up s' (offset_in s p) v.u t.done p r y t.k v.k (ap (λ (x : Cell). x.offset) C.here)
+                (stands_relink v.u s s' p r lo hi (with_next last (cell s p)) len C refl refl refl refl v.stands)
+                (subst (λ (x : ℕ). Line (not up) t.done s' x 0 r t.k y) (sym (ap (λ (x : Cell). x.next) C.here)) back);
+          };
+          kept = kept_trans s₀ s s' r r r (lower up n m) (lower up m n) t.kept (kept_between up s s' r n t.k v.k m t.nk km K);
+        }
+
+    pub turns_more : Turns s₀ q e b s' n' p
+    turns_more = record {
+      from = R;
+      len = len ∙ T.len;
+      small = omega (arith, turns_in ne, T.len, R.linkable);
+      goes = λ up es fs gs r y n m z A. turn up es fs gs r y n m z (T.goes up es fs gs r y n m z A);
+    }
+
+    -- one less is left
+    pub turns_less : chain 65536 s' n' < chain 65536 s p
+    unfolding turn
+    turns_less =
+        let t : Turning R.up R.es R.fs R.gs R.r R.y R.n R.m R.z s₀ s e p last = known in
+        let v : First R.up t.todo s p e R.r t.k R.m = first R.up t.todo s p e R.r t.k R.m ne t.ahead.run in
+        let t' : Turning R.up R.es R.fs R.gs R.r R.y R.n R.m R.z s₀ s' e n' p = turn R.up R.es R.fs R.gs R.r R.y R.n R.m R.z t in
+        let less : count t.todo ≡ suc (count v.rest) = ap count v.is in
+        let x = line_chain R.up t.todo R.fs s p e R.r t.k R.m R.z (omega (arith, R.few, t.few)) t.ahead.run t.ahead.rest in
+        let x' = line_chain R.up v.rest R.fs s' n' e R.r v.k R.m R.z (omega (arith, R.few, t.few)) t'.ahead.run t'.ahead.rest in
+        omega (arith, x, x')
+
+  pub turns_end : p ≡ e → Turned s₀ q e b s last
   unfolding onto
-  turn es fs r lo m hi t =
-      let v : Head t.todo s p e r t.n m = head t.todo s p e r t.n m ne t.run in
-      let R = stands_root v.u s p r t.n v.m v.stands in
-      let nm = stands_le v.u s p r t.n v.m v.stands in
-      let ln = down_le t.done s last r lo t.n t.down in
-      let mm = row_le v.rest s (next_in s p) e r v.m m v.row in
-      let K : Kept s r s' r t.n v.m = kept_set s s' r t.n v.m p (with_next last (cell s p)) len R.low R.high C in
-      record {
-        done = entry (offset_in s p) v.u t.done;
-        todo = v.rest;
-        n = v.m;
-        is = t.is ∙ ap (onto t.done) v.is;
-        down = down_one s' (offset_in s p) v.u t.done p r lo t.n v.m (ap (λ (x : Cell). x.offset) C.here)
-            (stands_relink v.u s s' p r t.n v.m (with_next last (cell s p)) len C refl refl refl refl v.stands)
-            (subst (λ (x : ℕ). Down t.done s' x r lo t.n) (sym (ap (λ (x : Cell). x.next) C.here))
-            (down_still t.done s s' last r r lo t.n len (apart s s' r r t.n v.m lo t.n K (omega arith)) t.down));
-        run = subst (λ (x : ℕ). Row v.rest s' x e r v.m m) (sym en)
-            (row_still v.rest s s' (next_in s p) e r r v.m m len (apart s s' r r t.n v.m v.m m K (omega arith)) v.row);
-        row = row_still fs s s' e 0 r r m hi len (apart s s' r r t.n v.m m hi K (omega arith)) t.row;
-        kept = kept_trans s₀ s s' r r r lo m t.kept (kept_widen s s' r r t.n v.m lo m ln mm K);
-      }
-
-  pub turns_more : Turns s₀ q e s' n' p
-  turns_more = record {
-    from = T.from;
-    len = len ∙ T.len;
-    small = omega (arith, turns_in s₀ q e s p last T ne, T.len, T.from.linkable);
-    goes = λ es fs r lo m hi A. turn es fs r lo m hi (T.goes es fs r lo m hi A);
+  turns_end eq = record {
+    small = T.small;
+    back = λ up es fs gs r y n m z A.
+        let t : Turning up es fs gs r y n m z s₀ s e p last = T.goes up es fs gs r y n m z A in
+        let h = t.ahead in
+        let none : t.todo ≡ none = line_end up t.todo fs s p e r t.k m z eq h.run h.rest in
+        let is : onto es gs ≡ t.done = t.is ∙ ap (λ (x : Entries). onto x t.done) none in
+        record {
+          line = subst (λ (x : Entries). Line (not up) x s last 0 r m y) (sym is) (line_wide up t.done s last r y t.k m (line_le up t.todo s p e r t.k m h.run) h.back);
+          kept = t.kept;
+        };
   }
-
-  -- one less is left
-  pub turns_less : chain 65536 s' n' < chain 65536 s p
-  unfolding turn
-  turns_less =
-      let F = T.from in
-      let t : Turning F.es F.fs F.r F.lo F.m F.hi s₀ s e p last = known s₀ q e s p last T in
-      let v : Head t.todo s p e F.r t.n F.m = head t.todo s p e F.r t.n F.m ne t.run in
-      let t' : Turning F.es F.fs F.r F.lo F.m F.hi s₀ s' e n' p = turn F.es F.fs F.r F.lo F.m F.hi t in
-      let todo : count t.todo ≡ suc (count v.rest) = ap count v.is in
-      let few : count F.es ≡ count t.done + count t.todo = ap count t.is ∙ onto_count t.done t.todo in
-      let x = chain_many 65536 (t.todo <+> F.fs) s p F.r t.n F.hi (omega (arith, F.few, append_count t.todo F.fs)) (row_app t.todo F.fs s p e 0 F.r t.n F.m F.hi t.run t.row) in
-      let y = chain_many 65536 (v.rest <+> F.fs) s' n' F.r v.m F.hi (omega (arith, F.few, append_count v.rest F.fs))
-      (row_app v.rest F.fs s' n' e 0 F.r v.m F.m F.hi t'.run t'.row) in
-      omega (arith, x, y, append_count t.todo F.fs, append_count v.rest F.fs)
-
-down_wide : (es : Entries) (s : List ℕ) (q : ℕ) (r : ℕ → ℕ) (lo hi hi' : ℕ) → hi ≤ hi' → Down es s q r lo hi → Down es s q r lo hi'
-unfolding Down
-down_wide none s q r lo hi hi' b h = (h.0, omega (arith, h.1))
-down_wide (entry o u es) s q r lo hi hi' b h = (h.0, h.1, stands_wide u s q r h.0 hi h.0 hi' (omega arith) b h.2, h.3)
-
-pub turns_end : (s₀ : List ℕ) (q e : ℕ) (s : List ℕ) (p last : ℕ) → Turns s₀ q e s p last → p ≡ e → Turned s₀ q e s last
-turns_end s₀ q e s p last T eq = record {
-  back = λ es fs r lo m hi A.
-      let t : Turning es fs r lo m hi s₀ s e p last = T.goes es fs r lo m hi A in
-      let n : t.todo ≡ none = end t.todo s p e r t.n m eq (first_past fs s e r m hi t.row) t.run in
-      let is : onto es none ≡ t.done = ap (λ (x : Entries). onto x none) (t.is ∙ ap (onto t.done) n) ∙ rev_twice t.done in
-      record {
-        down = subst (λ (x : Entries). Down x s last r lo m) (sym is) (down_wide t.done s last r lo t.n m (row_le t.todo s p e r t.n m t.run) t.down);
-        kept = t.kept;
-      };
-}

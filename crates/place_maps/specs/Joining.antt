@@ -11,9 +11,11 @@ use Rattle.links.specs.Standing.{Root, Stands, Row}
 use Rattle.links.specs.Rows.{Down, Up, link, onto}
 use Rattle.links.specs.Frames.{Kept}
 use Rattle.report.specs.Emitted.{Emitted}
+use Rattle.report.specs.declared.Report.{Report}
 use Rattle.place_states.specs.Beyond.{act}
 use Rattle.place_states.specs.Ends.{finished_state}
 use Rattle.place_states.specs.declared.State.{State}
+use Rattle.place_states.specs.declared.Todo.{Todo}
 
 -- where a state's records are
 pub record Within (s : List ℕ) (a : ℕ) (st : State) : Type 0 where
@@ -68,42 +70,21 @@ apart o d st u b w p = straddled none (straddle_conflict o d) p
 unfoldable pub into_entry : ℕ → ℕ → Setting → Usage → Usage → List ℕ → ℕ → Joining
 into_entry o d st u b w p = joined_at o o w p (place st u (d - o) b)
 
-unfoldable pub into_b : ℕ → ℕ → ℕ → Setting → Usage → Usage → List ℕ → ℕ → Joining
+unfoldable pub into_b : Todo → ℕ → ℕ → Setting → Usage → Usage → List ℕ → ℕ → Joining
 into_b todo o d st u b w p = joined_at d o w p (act st todo (o - d) b u)
 
 -- whatever they are, of the sizes that stand at l and x
 pub record Joint (s : List ℕ) (l x o d : ℕ) (f : Setting → Usage → Usage → List ℕ → ℕ → Joining) : Type 0 where
   pub comes : (st : Setting) (u b : Usage) (w : List ℕ) (p : ℕ) → size u ≡ size_in s l → size b ≡ size_in s x → join_entry st (place st) o u d b w p ≡ f st u b w p
 
--- the state with the next pair
-abbrev pub pair_state : State → ℕ → ℕ → ℕ → ℕ → ℕ → ℕ → ℕ → State
-pair_state st todo x d m offset rest at = record {
-  refusal = 0;
-  todo = todo;
-  rule = 6;
-  x = x;
-  d = d;
-  m = m;
-  offset = offset;
-  rest = rest;
-  q = st.q;
-  low = st.low;
-  pairings = st.pairings;
-  base = st.base;
-  mark = st.at;
-  at = at;
-}
-
--- the pair is x, and m at d in it; the entry that is joined stands at o
-pub record Paired (s rep : List ℕ) (st : State) (o todo x d m offset : ℕ) (rep' : List ℕ) (r : State) : Type 0 where
-  pub at : ℕ
-  pub state : r ≡ pair_state st todo x d m offset (next_in s st.rest) at
-  pub report : Emitted rep st.at (0x31 ∷ bytes 4 o) rep' at
+-- the pair's entry, at o, is no longer left, and its head is reported
+pub record Paired (s : List ℕ) (rep : Report) (pair : State) (o : ℕ) (rep' : Report) (r : State) : Type 0 where
+  pub state : r ≡ record pair { rest = next_in s pair.rest; mark = rep.at }
+  pub report : Emitted rep (0x31 ∷ bytes 4 o) rep'
 
 -- the entry, at o, and b are gone, and so is what was reported before; the entries that were not reached stay
-pub record Straddled (s rep : List ℕ) (a : ℕ) (st : State) (o : ℕ) (s' rep' : List ℕ) (r : State) : Type 0 where
-  pub at : ℕ
-  pub state : r ≡ finished_state a st.pairings at
-  pub report : Emitted rep st.base (straddle_conflict o st.offset) rep' at
+pub record Straddled (s : List ℕ) (rep : Report) (a : ℕ) (st : State) (o : ℕ) (s' : List ℕ) (rep' : Report) (r : State) : Type 0 where
+  pub state : r ≡ finished_state a st.pairings
+  pub report : Emitted (record rep { at = st.base }) (straddle_conflict o st.offset) rep'
   pub made : (z : Size) (es fs gs : Entries) (r : ℕ → ℕ) (lo m n hi : ℕ) → Root s a r lo hi 3 z → Up es s a st.low r (suc (r a)) m
       → Down fs s (next_in s st.rest) r m n → Row gs s st.q 0 r n hi → Made (map z (onto es (onto fs gs))) s a r lo hi s'

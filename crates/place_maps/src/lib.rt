@@ -2,48 +2,35 @@
 // highest down; nothing moves.
 #![tactic(auto)]
 
-ghost use Rattle.std.specs.Prelude.{◌≡◌, List, ℕ, ◌+◌, ◌*◌, ◌<◌, ◌≤◌, length};
+ghost use Rattle.std.specs.Prelude.{◌≡◌, ◌+◌, ◌*◌, ◌<◌, ◌≤◌, length};
 ghost use Rattle.records.specs.Records.{command_in};
 ghost use Rattle.place_states.specs.Calls.{Beside};
 ghost use Rattle.place_states.specs.States.{Waiting, Moves};
 ghost use Rattle.place_states.specs.Starts.{Plain, Starts};
-ghost use Rattle.place_maps.specs.Runs.{Run, Turned, Fallen, Restored};
+ghost use Rattle.place_maps.specs.Runs.{Run, Turned};
 ghost use Rattle.place_maps.specs.Joining.{Within, Passed, Linked, Closed, Entered, Paired, Straddled};
 
 use place_search::{end_at, overlapping, past32};
-use place_states::{State, without_heading};
+use place_states::{Rule, SizeRefusal, State, Todo, drop_heading};
 use records::{copy_record, next, offset, put_argument, put_child, put_next, put_offset};
+use report::Report;
+use std::cmp::Ordering;
 
-// The entries from `first` up to `above` are linked downwards; the highest of them, or 0.
-fn reverse(s: &mut [u8], first: usize, above: usize) -> usize
-    requires { Run s.old first above }
-    ensures { Turned s.old first above s.new result }
+// The entries from record q to record `end` are linked the other way round, upwards or downwards, and the last of them to `behind`; the
+// first of them, or `behind`. A walk along links in the lent bytes, which it changes as it goes.
+fn turn(s: &mut [u8], q: usize, end: usize, behind: usize) -> usize
+    requires { Run s.old q end behind }
+    ensures { Turned s.old q end behind s.new result }
 {
-    let mut p = first;
-    let mut last = 0;
-    while p != above {
+    let mut p = q;
+    let mut last = behind;
+    while p != end {
         let n = next(s, p);
         put_next(s, p, last);
         last = p;
         p = n;
     }
     last
-}
-
-// The entries that are linked downwards from `from` on are linked upwards again, before `above`; the first of all.
-fn restore(s: &mut [u8], from: usize, above: usize) -> usize
-    requires { Fallen s.old from above }
-    ensures { Restored s.old from above s.new result }
-{
-    let mut p = from;
-    let mut head = above;
-    while p != 0 {
-        let n = next(s, p);
-        put_next(s, p, head);
-        head = p;
-        p = n;
-    }
-    head
 }
 
 // q becomes what follows the entry `low` of a, or a's first.
@@ -53,9 +40,9 @@ fn link(s: &mut [u8], a: usize, low: usize, q: usize)
 {
     if low == 0 {
         put_child(s, a, q);
-        return;
+    } else {
+        put_next(s, low, q);
     }
-    put_next(s, low, q);
 }
 
 // The same, and the finger of a is `low`.
@@ -72,10 +59,7 @@ fn passed(s: &[u8], q: usize, o: u32) -> usize
     requires { (q * 32 + 32 ≤ length s.now) × (length s.now ≤ 2097152) }
     ensures { Passed s.now q o result }
 {
-    if q == 0 {
-        return q;
-    }
-    if offset(s, q) == o {
+    if q != 0 && offset(s, q) == o {
         return next(s, q);
     }
     q
@@ -86,11 +70,7 @@ fn enter(s: &mut [u8], a: usize, low: usize, b: usize, o: u32)
     requires { (a * 32 + 32 ≤ length s.old) × (low * 32 + 32 ≤ length s.old) × (b * 32 + 32 ≤ length s.old) × (length s.old ≤ 2097152) }
     ensures { Entered s.old a low b o s.new }
 {
-    if low == 0 {
-        close(s, a, low, b);
-        return;
-    }
-    if offset(s, low) != o {
+    if low == 0 || offset(s, low) != o {
         close(s, a, low, b);
         return;
     }
@@ -99,12 +79,12 @@ fn enter(s: &mut [u8], a: usize, low: usize, b: usize, o: u32)
 }
 
 // No entry is left to be joined: b replaces what stands at its offset.
-fn end_join(s: &mut [u8], a: usize, st: State) -> State
+fn end_join(s: &mut [u8], a: usize, st: State, report: &mut Report<'_>) -> State
     requires waiting { Waiting s.old a st }
     requires within { Within s.old a st }
-    requires rule_value { st.rule ≡ 6 }
+    requires rule_value { st.rule ≡ Rule.Join }
     requires rest_value { st.rest ≡ 0 }
-    ensures { (rep : List ℕ) → Moves s.old rep a st s.new rep result }
+    ensures { Moves s.old report.old a st s.new report.new result }
 {
     let b = st.x;
     let o = st.offset;
@@ -112,120 +92,121 @@ fn end_join(s: &mut [u8], a: usize, st: State) -> State
     put_offset(s, b, o);
     put_next(s, b, above);
     enter(s, a, st.low, b, o);
-    State::finished(a, st.pairings, without_heading(st.base, st.at))
+    drop_heading(report, st.base);
+    State::finished(a, st.pairings)
 }
 
 // The entry at o and b straddle: they are gone, and so is what was reported before.
-fn straddle(s: &mut [u8], a: usize, st: State, o: u32, rep: &mut [u8]) -> State
+fn straddle(s: &mut [u8], a: usize, st: State, o: u32, report: &mut Report<'_>) -> State
     requires waiting { Waiting s.old a st }
     requires within { Within s.old a st }
-    requires rule_value { st.rule ≡ 6 }
+    requires rule_value { st.rule ≡ Rule.Join }
     requires fact { st.rest ≡ 0 → ⊥ }
-    ensures { Straddled s.old rep.old a st o s.new rep.new result }
+    ensures { Straddled s.old report.old a st o s.new report.new result }
 {
     let left = next(s, st.rest);
-    let head = restore(s, left, st.q);
+    let head = turn(s, left, 0, st.q);
     close(s, a, st.low, head);
-    let here = report::straddle(rep, st.base, o, st.offset);
-    State::finished(a, st.pairings, here)
+    report.at = st.base;
+    report.straddle(o, st.offset);
+    State::finished(a, st.pairings)
 }
 
-// The next pair: x receives m at d, and the result stands at `offset`; one of them is the entry, at o.
-fn join(
-    s: &[u8],
-    st: State,
-    o: u32,
-    todo: u32,
-    x: usize,
-    d: u32,
-    m: usize,
-    offset: u32,
-    rep: &mut [u8],
-) -> State
-    requires { st.rest * 32 + 32 ≤ length s.now }
-    ensures { Paired s.now rep.old st o todo x d m offset rep.new result }
+// The pair is the next one: the entry that it takes, at o, is no longer left.
+fn join(s: &[u8], pair: State, o: u32, report: &mut Report<'_>) -> State
+    requires { pair.rest * 32 + 32 ≤ length s.now }
+    ensures { Paired s.now report.old pair o report.new result }
 {
-    let rest = next(s, st.rest);
-    let here = report::of_entry(rep, st.at, o);
+    let mark = report.at;
+    report.of_entry(o);
     State {
-        refusal: 0,
-        todo: todo,
-        rule: 6,
-        x: x,
-        d: d,
-        m: m,
-        offset: offset,
-        rest: rest,
-        q: st.q,
-        low: st.low,
-        pairings: st.pairings,
-        base: st.base,
-        mark: st.at,
-        at: here,
+        rest: next(s, pair.rest),
+        mark,
+        ..pair
     }
 }
 
 // b so far stands at x; the highest of the entries that are left is joined with it. The one that starts lower receives the other,
 // and must end no earlier than it.
-pub fn next_join(s: &mut [u8], a: usize, st: State, rep: &mut [u8]) -> State
+pub fn next_join(s: &mut [u8], a: usize, st: State, report: &mut Report<'_>) -> State
     requires waiting { Waiting s.old a st }
-    requires rule_value { st.rule ≡ 6 }
-    ensures { Moves s.old rep.old a st s.new rep.new result }
+    requires rule_value { st.rule ≡ Rule.Join }
+    ensures { Moves s.old report.old a st s.new report.new result }
 {
-    let l = st.rest;
-    if l == 0 {
-        return end_join(s, a, st);
+    let entry = st.rest;
+    if entry == 0 {
+        return end_join(s, a, st, report);
     }
     let d = st.offset;
-    let o = offset(s, l);
-    let entry_end = end_at(s, l, o);
+    let o = offset(s, entry);
+    let entry_end = end_at(s, entry, o);
     let b_end = end_at(s, st.x, d);
-    if o < d {
-        if entry_end < b_end {
-            return straddle(s, a, st, o, rep);
+    match o.cmp(&d) {
+        Ordering::Less if b_end <= entry_end => {
+            let pair = State {
+                todo: Todo::Place,
+                x: entry,
+                d: d - o,
+                m: st.x,
+                offset: o,
+                ..st
+            };
+            join(s, pair, o, report)
         }
-        return join(s, st, o, 2, l, d - o, st.x, o, rep);
-    }
-    if d < o {
-        if b_end < entry_end {
-            return straddle(s, a, st, o, rep);
+        Ordering::Equal => {
+            let pair = State {
+                todo: Todo::Merge,
+                d: 0,
+                m: entry,
+                ..st
+            };
+            join(s, pair, o, report)
         }
-        return join(s, st, o, 2, st.x, o - d, l, d, rep);
+        Ordering::Greater if entry_end <= b_end => {
+            let pair = State {
+                todo: Todo::Place,
+                d: o - d,
+                m: entry,
+                ..st
+            };
+            join(s, pair, o, report)
+        }
+        _ => straddle(s, a, st, o, report),
     }
-    join(s, st, o, 3, st.x, 0, l, d, rep)
 }
 
 // b is placed at d in a, a map: it stands beside the entries that overlap, and is what there is so far.
-pub fn begin_join(s: &mut [u8], a: usize, d: u32, b: usize, rep: &mut [u8], at: usize) -> State
+pub fn begin_join(
+    s: &mut [u8],
+    a: usize,
+    d: u32,
+    b: usize,
+    report: &mut Report<'_>,
+) -> Result<State, SizeRefusal>
     requires beside { Beside s.old a b }
     requires plain { Plain (command_in s.old b) d }
     requires a_value { command_in s.old a ≡ 3 }
-    ensures { Starts s.old a d b rep.old at s.new rep.new result }
+    ensures { Starts s.old a d b report.old s.new report.new result }
 {
     let e = end_at(s, b, d);
     if past32(e) {
-        return State::refused(9);
+        return Err(SizeRefusal::Past32);
     }
-    let found = overlapping(s, a, d, e);
-    if found.past {
-        return State::refused(9);
-    }
-    let rest = reverse(s, found.first, found.above);
-    let here = report::byte(rep, at, 0x30);
-    State {
-        refusal: 0,
-        todo: 1,
-        rule: 6,
+    let found = overlapping(s, a, d, e).ok_or(SizeRefusal::Past32)?;
+    let rest = turn(s, found.first, found.above, 0);
+    let base = report.at;
+    report.byte(0x30);
+    Ok(State {
+        todo: Todo::Go,
+        rule: Rule::Join,
         x: b,
-        d: 0,
-        m: 0,
         offset: d,
-        rest: rest,
+        rest,
         q: found.above,
         low: found.low,
         pairings: 1,
-        base: at,
-        mark: here,
-        at: here,
-    }
+        base,
+        mark: report.at,
+        ..State::NONE
+    })
 }

@@ -11,16 +11,15 @@ use Rattle.definitions.specs.Usage.{Size, fixed, Usage, Entries, none, entry, si
 use Rattle.definitions.specs.Place.{◌≤ˢ◌}
 use Rattle.records.specs.Records.{next_in, size_in, offset_in}
 use Rattle.links.specs.Standing.{Stands, Row}
-use Rattle.links.specs.Rows.{chain}
 use Rattle.links.proofs.Stands.{stands_root}
 use Rattle.links.proofs.Rows.{Head, head, row_none, row_one, row_app}
 use Rattle.place_search.specs.Table.{nothing_is, top_of, Tells, Rows}
 use Rattle.place_search.specs.Numbers.{Marks}
 use Rattle.place_search.specs.Parts.{Crossing, Starts}
 use Rattle.place_search.specs.Seeking.{Linked, Within, Stopped, Before}
-use Rattle.place_search.specs.Cutting.{Above, Behind, Cuts, CutsAll}
+use Rattle.place_search.specs.Cutting.{Above, Behind, Cuts}
 use Rattle.place_search.specs.declared.Entry.{Entry}
-use Rattle.place_search.proofs.Linking.{append_count, linked_inside, linked_within, linked_room, linked_next, linked_less}
+use Rattle.place_search.proofs.Linking.{append_count, linked_inside, linked_within, linked_next}
 use Rattle.place_search.proofs.Searching.{Later, Searched, passed, found, searched}
 
 -- each starts before e
@@ -179,12 +178,6 @@ module _ {w : ℕ} {s : List ℕ} {q e : ℕ} {t : List Entry} {k p d l : ℕ} {
   pub cuts : Cuts s q d e l p
   cuts = record { none = none_ended; one = one_ended }
 
-pub cuts_all : {s : List ℕ} {q d e l p : ℕ} → Cuts s q d e l p → CutsAll s q d e l p true
-cuts_all C = record { cuts = λ h. C }
-
-pub cuts_not : {s : List ℕ} {q d e l p : ℕ} → CutsAll s q d e l p false
-cuts_not = record { cuts = λ h. let z : ◌≡◌ {A = ℕ} 0 1 = cc in absurd (omega arith) }
-
 -- the record that is read, and the measure
 
 pub fill_within : {w : ℕ} {s : List ℕ} {q e : ℕ} {t : List Entry} {k p : ℕ} → Filling w s q e t k p → Within s p
@@ -196,9 +189,3 @@ module _ {w : ℕ} {s : List ℕ} {q e : ℕ} {t : List Entry} {k p : ℕ} {c : 
 
   pub fill_small : p < 65536
   fill_small = (linked_inside G.there (B.early ok).some).1
-
-  pub fill_room : k < 511
-  fill_room = linked_room G.there (B.early ok).some
-
-  pub fill_less : {p' : ℕ} → p' ≡ next_in s p → chain 65536 s p' < chain 65536 s p
-  fill_less eq = linked_less G.there (B.early ok).some eq

@@ -1,5 +1,4 @@
 pub mod Marking
-pub mod Rowing
 pub mod Linking
 pub mod Skipping
 pub mod Searching

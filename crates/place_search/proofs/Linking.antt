@@ -48,9 +48,6 @@ module _ {s : List ℕ} {p k : ℕ} (L : Linked s p k) where
   pub linked_within : Within s p
   linked_within = record { inside = λ ne. (linked_inside ne).0 }
 
-  pub linked_room : (p ≡ 0 → ⊥) → k < 511
-  linked_room ne = let v = first ne in omega (arith, L.few, ap count v.is)
-
   module _ {p' : ℕ} (ne : p ≡ 0 → ⊥) (e : p' ≡ next_in s p) where
     pub linked_next : {k' : ℕ} → k' ≤ k + 1 → Linked s p' k'
     linked_next le =

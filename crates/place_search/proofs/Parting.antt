@@ -4,6 +4,7 @@ use Prim.Native.Nat.{ℕ, ◌+◌, ◌*◌, ◌≤◌}
 use mathlib.Core.Path.{◌≡◌, refl, sym, ap, ◌∙◌, subst}
 use mathlib.Core.Bool.{Bool, true, false}
 use mathlib.Core.List.{List}
+use Rattle.std.specs.Prelude.{Option, Some, None}
 use native.Mathlib.Decide.{ℕ_discrete}
 use native.Mathlib.Omega.{arith}
 use lib.ListN.{length}
@@ -14,9 +15,9 @@ use Rattle.links.specs.Rows.{Up, link, onto}
 use Rattle.links.proofs.Stands.{stands_root, link_suc}
 use Rattle.links.proofs.Rows.{row_none, row_app, up_run, up_one, rev_app, rev_rev}
 use Rattle.place_search.specs.Numbers.{Marks}
-use Rattle.place_search.specs.Parts.{any_past, Ended, Parted}
-use Rattle.place_search.specs.Seeking.{Linked, Before, Skips, Sought}
-use Rattle.place_search.specs.Cutting.{Above, Behind, Cuts, CutsAll, Between, AnyPast, Reaches, Found}
+use Rattle.place_search.specs.Parts.{any_past, Ended, Parted, Told}
+use Rattle.place_search.specs.Seeking.{Linked, Before, Begun, Skips, Sought}
+use Rattle.place_search.specs.Cutting.{Above, Behind, Cuts, Between, Reaches, Found}
 use Rattle.place_search.specs.declared.Overlap.{Overlap}
 use Rattle.place_search.proofs.Linking.{append_count}
 use Rattle.place_search.proofs.Skipping.{last_ended}
@@ -59,32 +60,11 @@ reaches {s} {q} {d} {e} {l} {p} L C = record { none = none_reached; one = one_re
           },
         )
 
-pub reaches_all : {s : List ℕ} {q d e l p : ℕ} {c : Bool} → Linked s q 0 → CutsAll s q d e l p c → c ≡ true → Reaches s q l p
-reaches_all L C h = reaches L (C.cuts h)
-
-module _ {s : List ℕ} {q l p : ℕ} (R : Reaches s q l p) where
-  pub between_none : l ≡ 0 → Between s q p
-  between_none z = R.none z
-
-  pub one_inside : (l ≡ 0 → ⊥) → l * 32 + 32 ≤ length s
-  one_inside ne = (R.one ne).0
-
-  pub between_one : {f : ℕ} → (l ≡ 0 → ⊥) → f ≡ next_in s l → Between s f p
-  between_one ne e = subst (λ (x : ℕ). Between s x p) (sym e) (R.one ne).1
-
--- the answers of `found`
-
-pub found_none : {s : List ℕ} {low q l p : ℕ} {c : Bool} → l ≡ 0 → AnyPast s q p c → Found s low q l p (record { low = low; first = q; above = p; past = c })
-found_none z A = record { none = λ _. (refl, refl); one = λ ne. absurd (ne z); above = refl; past = A }
-
-pub found_one : {s : List ℕ} {low q l p f : ℕ} {c : Bool} → (l ≡ 0 → ⊥) → f ≡ next_in s l → AnyPast s f p c → Found s low q l p (record { low = l; first = f; above = p; past = c })
-found_one ne e A = record { none = λ z. absurd (ne z); one = λ _. (refl, e); above = refl; past = A }
-
 -- those up to low, and those from f on, of which the ones before p overlap
 
-parted : (es x rest : Entries) (r : ℕ → ℕ) (lo m hi : ℕ) (s : List ℕ) (a d : ℕ) (z : Size) (e low f p : ℕ) (b : Overlap) → Marks e z → b.low ≡ low → b.first ≡ f → b.above ≡ p → es ≡ onto x rest → Up x s a low r lo m → link s a low ≡ f → Ended d z (onto x none)
-    → (A : Above rest r m hi s f d e p) → b.past ≡ any_past A.mid → Parted es r lo hi s a d z b
-parted es x rest r lo m hi s a d z e low f p b M el ef ep is U lk en A ea = record {
+parted : (es x rest : Entries) (r : ℕ → ℕ) (lo m hi : ℕ) (s : List ℕ) (a d : ℕ) (z : Size) (e low f p : ℕ) (b : Overlap) (c : Bool) → Marks e z → b.low ≡ low → b.first ≡ f → b.above ≡ p → es ≡ onto x rest → Up x s a low r lo m → link s a low ≡ f → Ended d z (onto x none)
+    → (A : Above rest r m hi s f d e p) → c ≡ any_past A.mid → Parted es r lo hi s a d z b c
+parted es x rest r lo m hi s a d z e low f p b c M el ef ep is U lk en A ea = record {
   low_down = x;
   mid = A.mid;
   high = A.high;
@@ -101,15 +81,15 @@ parted es x rest r lo m hi s a d z e low f p b M el ef ep is U lk en A ea = reco
   high_starts = A.high_starts z M;
 }
 
-pub sought_found : {s : List ℕ} {d e low q l p : ℕ} {b : Overlap} → Cuts s q d e l p → Found s low q l p b → Sought s d e low q b
-unfolding onto
-sought_found {s} {d} {e} {low} {q} {l} {p} {b} C F = record {
-  sought = λ z es r lo hi a M B. elim (ℕ_discrete l 0) [
+module _ {s : List ℕ} {d e low q l p : ℕ} (C : Cuts s q d e l p) where
+  parted_by : (b : Overlap) (c : Bool) → Found s low q l p b c → (z : Size) (es : Entries) (r : ℕ → ℕ) (lo hi a : ℕ) → Marks e z → Begun es r lo hi s a d z low q → Parted es r lo hi s a d z b c
+  unfolding onto
+  parted_by b c F z es r lo hi a M B = elim (ℕ_discrete l 0) [
     | yes h ↦
         let A : Above B.rest r B.m hi s q d e p = C.none h B.rest r B.m hi B.row in
         let f = F.none h in
-        let ea : b.past ≡ any_past A.mid = F.past.of A.mid A.high r B.m A.n hi (subst (λ (y : ℕ). Row A.mid s y p r B.m A.n) (sym f.1) A.mid_held) A.high_held in
-        parted es B.below B.rest r lo B.m hi s a d z e low q p b M f.0 f.1 F.above B.is B.up B.linked B.ended A ea
+        let ea : c ≡ any_past A.mid = F.past.of A.mid A.high r B.m A.n hi (subst (λ (y : ℕ). Row A.mid s y p r B.m A.n) (sym f.1) A.mid_held) A.high_held in
+        parted es B.below B.rest r lo B.m hi s a d z e low q p b c M f.0 f.1 F.above B.is B.up B.linked B.ended A ea
     | no h ↦
         let K : Behind B.rest r B.m hi s q d e l p = C.one h B.rest r B.m hi B.row in
         let A : Above K.rest r K.n hi s (next_in s l) d e p = K.above in
@@ -117,26 +97,26 @@ sought_found {s} {d} {e} {low} {q} {l} {p} {b} C F = record {
         let o = offset_in s l in
         let some = (stands_root K.u s l r K.m K.n K.stands).some in
         let w = up_run K.init B.below s a low q l r lo B.m K.m B.up B.linked K.init_held in
-        let ea : b.past ≡ any_past A.mid = F.past.of A.mid A.high r K.n A.n hi (subst (λ (y : ℕ). Row A.mid s y p r K.n A.n) (sym f.1) A.mid_held) A.high_held in
-        parted es (entry o K.u (onto K.init B.below)) K.rest r lo K.n hi s a d z e l (next_in s l) p b M f.0 f.1 F.above
+        let ea : c ≡ any_past A.mid = F.past.of A.mid A.high r K.n A.n hi (subst (λ (y : ℕ). Row A.mid s y p r K.n A.n) (sym f.1) A.mid_held) A.high_held in
+        parted es (entry o K.u (onto K.init B.below)) K.rest r lo K.n hi s a d z e l (next_in s l) p b c M f.0 f.1 F.above
         (B.is ∙ ap (onto B.below) K.is ∙ sym (rev_rev K.init B.below (entry o K.u K.rest)))
         (up_one s a o K.u (onto K.init B.below) l w.0 r lo K.m K.n refl w.2 K.stands w.1) (link_suc s a l some)
         (last_ended (onto K.init B.below) o K.u d z (K.starts z M) K.ends) A ea
-  ];
-}
+  ]
 
-pub sought_all : {s : List ℕ} {d e low q l p : ℕ} {c : Bool} {b : Overlap} → CutsAll s q d e l p c → c ≡ true → Found s low q l p b → Sought s d e low q b
-sought_all C h F = sought_found (C.cuts h) F
+  pub sought_found : (o : Option Overlap) → Told (Found s low q l p) o → Sought s d e low q o
+  sought_found (Some b) F = record { sought = parted_by b false F }
+  sought_found None F = record { sought = λ z es r lo hi a M B. (F.0, parted_by F.0 true F.1 z es r lo hi a M B) }
 
 -- where none is left that starts before e, none overlaps
 
-pub sought_none : {s : List ℕ} {d e low q low' q' : ℕ} {c : Bool} → Skips s d e low q low' q' → Before s e q' c → c ≡ false → Sought s d e low q (record { low = low'; first = q'; above = q'; past = false })
+pub sought_none : {s : List ℕ} {d e low q low' q' : ℕ} {c : Bool} → Skips s d e low q low' q' → Before s e q' c → c ≡ false → Sought s d e low q (Some (record { low = low'; first = q'; above = q' }))
 sought_none {s} {d} {e} {low' = low'} {q' = q'} K S stop = record {
   sought = λ z es r lo hi a M B₀.
       let B = K.skips z es r lo hi a M B₀ in
-      parted es B.below B.rest r lo B.m hi s a d z e low' q' q' (record { low = low'; first = q'; above = q'; past = false }) M refl refl refl B.is B.up B.linked B.ended
+      parted es B.below B.rest r lo B.m hi s a d z e low' q' q' (record { low = low'; first = q'; above = q' }) false M refl refl refl B.is B.up B.linked B.ended
       (record { mid = none; high = B.rest; n = B.m; is = refl; mid_held = row_none s q' r B.m; mid_crossing = λ y N. tt; high_held = B.row; high_starts = starts_at B.rest s q' r B.m hi (S.stopped stop) B.row }) refl;
 }
 
-pub sought_behind : {s : List ℕ} {d e low q low' q' : ℕ} {b : Overlap} → Skips s d e low q low' q' → Sought s d e low' q' b → Sought s d e low q b
+pub sought_behind : {s : List ℕ} {d e low q low' q' : ℕ} {b : Option Overlap} → Skips s d e low q low' q' → Sought s d e low' q' b → Sought s d e low q b
 sought_behind K S = record { sought = λ z es r lo hi a M B. S.sought z es r lo hi a M (K.skips z es r lo hi a M B) }

@@ -4,10 +4,9 @@ use Prim.Native.Nat.{ℕ, ◌+◌, ◌*◌, ◌<◌, ◌≤◌}
 use mathlib.Core.Path.{◌≡◌, refl, sym, ap, ◌∙◌, subst}
 use mathlib.Core.Bool.{Bool, true, false}
 use mathlib.Core.List.{List}
+use Rattle.std.specs.Prelude.{Option}
 use native.Mathlib.Omega.{arith}
-use lib.Dec.{ltb, leb}
 use lib.ListN.{length}
-use borrow.Author.Tests.{ltb-true, ltb-false, leb-true}
 use Rattle.definitions.specs.Usage.{Size, fixed, Usage, Entries, none, entry, size, count}
 use Rattle.definitions.specs.Place.{ends, ◌≤ˢ◌}
 use Rattle.records.specs.Records.{next_in, child_in, size_in, argument_in, offset_in}
@@ -18,37 +17,9 @@ use Rattle.links.proofs.Fingers.{Parted as Fingered, finger_split}
 use Rattle.links.proofs.Rows.{head, up_none, up_one, rev_app}
 use Rattle.place_search.specs.Numbers.{Marks}
 use Rattle.place_search.specs.Parts.{Listed, Ended, nothing, by, Parts}
-use Rattle.place_search.specs.Seeking.{Linked, Within, Early, Before, Passes, Begun, Skips, Sought}
+use Rattle.place_search.specs.Seeking.{Linked, Within, Early, Passes, Begun, Skips, Sought}
 use Rattle.place_search.specs.declared.Overlap.{Overlap}
-use Rattle.place_search.proofs.Marking.{marks_fixed, marks_le, marks_lt}
 use Rattle.place_search.proofs.Linking.{append_count, few_entries, linked_inside, linked_within, linked_next, linked_less}
-
--- what the tests say
-
-pub within_inside : {s : List ℕ} {p : ℕ} → Within s p → (p ≡ 0 → ⊥) → p * 32 + 32 ≤ length s
-within_inside W ne = W.inside ne
-
-pub before_none : {s : List ℕ} {e p : ℕ} → p ≡ 0 → Before s e p false
-before_none z = record { early = λ h. let y : ◌≡◌ {A = ℕ} 0 1 = cc in absurd (omega arith); stopped = λ h. record { starts = λ ne. absurd (ne z) } }
-
-pub before_test : {s : List ℕ} {e p o : ℕ} → (p ≡ 0 → ⊥) → o ≡ offset_in s p → o < 4294967296 → Before s e p (ltb o e)
-before_test {s} {e} {p} {o} ne eo ho = record {
-  early = λ h. record { some = ne; starts = λ z M. subst (λ (x : ℕ). (z ≤ˢ fixed x) ≡ false) eo (marks_lt z (fixed o) M (marks_fixed ho) (ltb-true o e h)) };
-  stopped = λ h. record { starts = λ _ z M. subst (λ (x : ℕ). (z ≤ˢ fixed x) ≡ true) eo (marks_le z (fixed o) M (marks_fixed ho) (ltb-false o e h)) };
-}
-
-pub passes_not : {s : List ℕ} {p d e : ℕ} → Passes s p d e false
-passes_not = record { early = λ h. let z : ◌≡◌ {A = ℕ} 0 1 = cc in absurd (omega arith); ends = λ h. let z : ◌≡◌ {A = ℕ} 0 1 = cc in absurd (omega arith) }
-
-pub passes_test : {s : List ℕ} {p d e : ℕ} {c : Bool} {o f : ℕ} → Before s e p c → c ≡ true → o ≡ offset_in s p → d < 4294967296 → Marks f (ends o (size_in s p)) → Passes s p d e (leb f d)
-passes_test {s} {p} {d} {o = o} {f = f} B ok eo hd M = record {
-  early = λ h. B.early ok;
-  ends = λ h. subst (λ (x : ℕ). (ends x (size_in s p) ≤ˢ fixed d) ≡ true) eo (marks_le (ends o (size_in s p)) (fixed d) M (marks_fixed hd) (leb-true f d h));
-}
-
-module _ {s : List ℕ} {e p : ℕ} {c : Bool} (W : Within s p) (B : Before s e p c) (ok : c ≡ true) where
-  pub before_inside : p * 32 + 32 ≤ length s
-  before_inside = W.inside (B.early ok).some
 
 -- the last that was stepped over
 
@@ -81,9 +52,6 @@ begun_next {es} {r} {lo} {hi} {s} {a} {d} {z} {l = l} {p = p} P E M e B =
 
 -- the loop
 
-pub skip_start : {s : List ℕ} {d e l q : ℕ} → Linked s q 0 → Skips s d e l q l q
-skip_start L = record { there = L; skips = λ z es r lo hi a M B. B }
-
 module _ {s : List ℕ} {d e l q l' p : ℕ} (K : Skips s d e l q l' p) where
   pub skip_within : Within s p
   skip_within = linked_within K.there
@@ -95,8 +63,9 @@ module _ {s : List ℕ} {d e l q l' p : ℕ} (K : Skips s d e l q l' p) where
     pub skip_less : {p' : ℕ} → p' ≡ next_in s p → chain 65536 s p' < chain 65536 s p
     skip_less eq = linked_less K.there (P.early ok).some eq
 
-    pub skip_more : {p' : ℕ} → p' ≡ next_in s p → Skips s d e l q p p'
-    skip_more eq = record { there = linked_next K.there (P.early ok).some eq (omega arith); skips = λ z es r lo hi a M B. begun_next (P.early ok) (P.ends ok) M eq (K.skips z es r lo hi a M B) }
+    pub skip_more : {l'' p' : ℕ} → l'' ≡ p → p' ≡ next_in s p → Skips s d e l q l'' p'
+    skip_more {l''} {p'} el eq =
+        subst (λ (x : ℕ). Skips s d e l q x p') (sym el) (record { there = linked_next K.there (P.early ok).some eq (omega arith); skips = λ z es r lo hi a M B. begun_next (P.early ok) (P.ends ok) M eq (K.skips z es r lo hi a M B) })
 
 -- where it starts
 
@@ -151,12 +120,14 @@ module _ {s : List ℕ} {a f : ℕ} (L : Listed s a) (e : f ≡ argument_in s a)
 
 -- what was found from there on
 
-pub parts_first : {s : List ℕ} {a d e c : ℕ} {b : Overlap} → c ≡ child_in s a → Sought s d e 0 c b → Parts s a d e b
+pub parts_first : {s : List ℕ} {a d e c : ℕ} {b : Option Overlap} → c ≡ child_in s a → Sought s d e 0 c b → Parts s a d e b
 parts_first eq S = record { parted = λ z es r lo hi M h F. S.sought z es r lo hi _ M (begun_first eq h) }
 
-pub parts_finger : {s : List ℕ} {a d e f q : ℕ} {b : Overlap} {c : Bool} → f ≡ argument_in s a → Passes s f d e c → c ≡ true → q ≡ next_in s f → Sought s d e f q b → Parts s a d e b
-parts_finger {s} {a} {d} {f = f} ef Q ok eq S = record {
-  parted = λ z es r lo hi M h F.
-      let K = split_at es s a r lo hi ef F h in
-      S.sought z es r lo hi a M (begun_at es K.lr K.left r lo K.m hi s a d z f (Q.early ok) (Q.ends ok) M eq K.is K.up K.row);
-}
+pub parts_finger : {s : List ℕ} {a d e f l q : ℕ} {b : Option Overlap} {c : Bool} → f ≡ argument_in s a → Passes s f d e c → c ≡ true → l ≡ f → q ≡ next_in s f → Sought s d e l q b → Parts s a d e b
+parts_finger {s} {a} {d} {e} {f} {q = q} {b = b} ef Q ok el eq S =
+    let T : Sought s d e f q b = subst (λ (x : ℕ). Sought s d e x q b) el S in
+    record {
+      parted = λ z es r lo hi M h F.
+          let K = split_at es s a r lo hi ef F h in
+          T.sought z es r lo hi a M (begun_at es K.lr K.left r lo K.m hi s a d z f (Q.early ok) (Q.ends ok) M eq K.is K.up K.row);
+    }

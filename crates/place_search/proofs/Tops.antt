@@ -1,59 +1,48 @@
--- What the search rests on: the definition of `specs/`, step by step, and facts on numbers. No walk.
+-- The topmost row is the first that is found from the end on, and the rows of a table's front are those of the table.
 -- Assumes nothing.
-use mathlib.Core.Path.{◌≡◌, refl, sym, subst, ap, ◌∙◌}
-use Prim.Native.Nat.{ℕ, zero, suc, ◌<◌, ◌≤◌, ◌^◌, ◌*◌, ◌-◌}
-use native.Mathlib.Nat.{not-suc-le-zero, suc-sub-suc, sub-zero, le_of_lt}
-use native.Mathlib.Omega.{arith}
-use mathlib.Core.Bool.{Bool, true, false, not}
-use mathlib.Core.List.{List}
-use lib.Dec.{T as Holds}
-use lib.ListN.{get_or, take, length, length-take}
-use lib.Seq.{get_or-take}
+use Rattle.std.proofs.Common.{◌≡◌, refl, sym, ap, subst, ◌∙◌, ℕ, zero, suc, ◌<◌, ◌≤◌, Bool, true, false, cond, List, [], ◌∷◌, ◌++◌, length, get_or, take, reverse, Option, Some, None, MatchOption, Bor, arith}
+use Rattle.std.specs.List.{find}
+use Rattle.std.specs.Option.{option_map}
+use Rattle.std.proofs.lemmas.List.{reverse-reverse, length-reverse, get_or_append_left, get_or-take, length-take-le}
+use Rattle.std.proofs.lemmas.Grind.{reverse_onto}
+use Rattle.std.proofs.Math.Seq.{get_or-append_seam}
 use Rattle.place_search.specs.declared.Entry.{Entry}
 use Rattle.place_search.specs.Table.{nothing_is, ends_by, pick, top_of}
 
-less_one : (m : ℕ) → suc m - 1 ≡ m
-less_one m = suc-sub-suc m zero ∙ sub-zero m
+-- a search below row k sees the rows below k alone
+top_same : (t t' : List Entry) (k d : ℕ) → ((j : ℕ) → j < k → get_or t j nothing_is ≡ get_or t' j nothing_is) → top_of t k d ≡ top_of t' k d
+top_same t t' zero d h = refl
+top_same t t' (suc k) d h = let e = h k (omega arith) in λ i. pick (ends_by (e i) d) (e i).node (top_same t t' k d (λ j l. h j (omega arith)) i)
 
-picks : (t : Bool) (x y : ℕ) → Holds t → pick t x y ≡ x
-picks true x y h = refl
-picks false x y h = absurd h
+-- the search in the first n rows, lent by themselves
+pub top_front : (n : ℕ) (t : List Entry) (d : ℕ) → n ≤ length t → top_of (take n t) (length (take n t)) d ≡ top_of t n d
+top_front n t d h = ap (λ (k : ℕ). top_of (take n t) k d) (length-take-le n t h) ∙ top_same (take n t) t n d (λ j l. get_or-take n t j nothing_is l)
 
-passes : (t : Bool) (x y : ℕ) → Holds (not t) → pick t x y ≡ y
-passes true x y h = absurd h
-passes false x y h = refl
+abbrev node_or : Option Entry → ℕ
+node_or None = 0
+node_or (Some x) = x.node
 
--- at 0 there is nothing_is
-pub none_left : (ys : List Entry) (k d : ℕ) → k ≤ 0 → top_of ys k d ≡ 0
-none_left ys zero d h = refl
-none_left ys (suc m) d h = absurd (not-suc-le-zero h)
+picks : (b : Bool) (y : Entry) (k : ℕ) (o : Option Entry) → k ≡ node_or o → pick b y.node k ≡ node_or (cond b (Some y) o)
+picks true y k o e = refl
+picks false y k o e = e
 
--- the entry below k ends by d: it is the topmost
-pub hits : (ys : List Entry) (k d : ℕ) → 0 < k → Holds (ends_by (get_or ys (k - 1) nothing_is) d) → top_of ys k d ≡ (get_or ys (k - 1) nothing_is).node
-hits ys zero d h t = absurd (not-suc-le-zero h)
-hits ys (suc m) d h t =
-    picks (ends_by (get_or ys m nothing_is) d) (get_or ys m nothing_is).node (top_of ys m d) (subst (λ (j : ℕ). Holds (ends_by (get_or ys j nothing_is) d)) (less_one m) t) ∙ ap (λ (j : ℕ). (get_or ys j nothing_is).node) (sym (less_one m))
+top_last : (ys : List Entry) (d : ℕ) → top_of (reverse ys) (length ys) d ≡ node_or (find (λ x. ends_by x d) ys)
+top_last [] d = refl
+top_last (y ∷ ys) d =
+    let k = length ys in
+    let t = reverse ys ++ (y ∷ []) in
+    let e : reverse (y ∷ ys) ≡ t = reverse_onto ys y [] in
+    let l : length (reverse ys) ≡ k = length-reverse ys in
+    let last : get_or t k nothing_is ≡ y = subst (λ (j : ℕ). get_or t j nothing_is ≡ y) l (get_or-append_seam (reverse ys) y [] nothing_is) in
+    let below : top_of t k d ≡ top_of (reverse ys) k d = top_same t (reverse ys) k d (λ j h. get_or_append_left (reverse ys) (y ∷ []) nothing_is j (omega arith)) in
+    ap (λ (x : List Entry). top_of x (suc k) d) e ∙ ap (λ (x : Entry). pick (ends_by x d) x.node (top_of t k d)) last ∙ picks (ends_by y d) y (top_of t k d) (find (λ x. ends_by x d) ys) (below ∙ top_last ys d)
 
--- it does not: the search goes on below it
-pub goes_on : (ys : List Entry) (k d : ℕ) → 0 < k → Holds (not (ends_by (get_or ys (k - 1) nothing_is) d)) → top_of ys (k - 1) d ≡ top_of ys k d
-goes_on ys zero d h t = absurd (not-suc-le-zero h)
-goes_on ys (suc m) d h t = ap (λ (j : ℕ). top_of ys j d) (less_one m) ∙ sym (passes (ends_by (get_or ys m nothing_is) d) (get_or ys m nothing_is).node (top_of ys m d) (subst (λ (j : ℕ). Holds (not (ends_by (get_or ys j nothing_is) d))) (less_one m) t))
+found_node : (r : ℕ) (o : Option (Bor Entry)) → MatchOption o (r ≡ 0) (λ x. r ≡ x.now.node) → r ≡ node_or (option_map (λ x. x.now) o)
+found_node r None h = h
+found_node r (Some x) h = h
 
--- the search in the first n entries, from k ≤ n, is the search in all
-pub top_take : (n : ℕ) (xs : List Entry) (k d : ℕ) → k ≤ n → top_of (take n xs) k d ≡ top_of xs k d
-top_take n xs zero d h = refl
-top_take n xs (suc k) d h = λ i. pick (ends_by (get_or-take n xs k nothing_is h i) d) (get_or-take n xs k nothing_is h i).node (top_take n xs k d (le_of_lt h) i)
-
--- ---- numbers
-pub below : {k n : ℕ} → 0 < k → k ≤ n → k - 1 < n
-below h l = omega arith
-
-pub less : {k : ℕ} → 0 < k → k - 1 < k
-less h = omega arith
-
-pub bytes_fit : {j n : ℕ} → j < n → n * 12 < 2 ^ 63 → j * 12 < 2 ^ 64
-bytes_fit l g = omega arith
-
--- the search in the first n entries, lent by themselves
-pub top_front : (n : ℕ) (xs : List Entry) (d : ℕ) → n ≤ length xs → top_of (take n xs) (length (take n xs)) d ≡ top_of xs n d
-top_front n xs d h = let l : length (take n xs) ≡ n = omega (arith, length-take {A = Entry}) in rw l (top_take n xs n d (omega arith))
+-- what is found from the end on
+pub top_found : (t : List Entry) (d r : ℕ) (o : Option (Bor Entry)) → option_map (λ x. x.now) o ≡ find (λ x. ends_by x d) (reverse t) → MatchOption o (r ≡ 0) (λ x. r ≡ x.now.node) → r ≡ top_of t (length t) d
+top_found t d r o e h =
+    let back : top_of t (length t) d ≡ node_or (find (λ x. ends_by x d) (reverse t)) = ap (λ (x : List Entry). top_of x (length t) d) (sym (reverse-reverse t)) ∙ ap (λ (k : ℕ). top_of (reverse (reverse t)) k d) (sym (length-reverse t)) ∙ top_last (reverse t) d in
+    found_node r o h ∙ ap node_or e ∙ sym back

@@ -40,10 +40,6 @@ pub record Cuts (s : List ℕ) (q d e l p : ℕ) : Type 0 where
   pub none : l ≡ 0 → (es : Entries) (r : ℕ → ℕ) (lo hi : ℕ) → Row es s q 0 r lo hi → Above es r lo hi s q d e p
   pub one : (l ≡ 0 → ⊥) → (es : Entries) (r : ℕ → ℕ) (lo hi : ℕ) → Row es s q 0 r lo hi → Behind es r lo hi s q d e l p
 
--- if all of them were looked at
-pub record CutsAll (s : List ℕ) (q d e l p : ℕ) (all : Bool) : Type 0 where
-  pub cuts : all ≡ true → Cuts s q d e l p
-
 -- some entries are linked from record q to record p, and some from there on
 pub record Between (s : List ℕ) (q p : ℕ) : Type 0 where
   pub linked : Linked s q 0
@@ -65,9 +61,9 @@ pub record Reaches (s : List ℕ) (q l p : ℕ) : Type 0 where
   pub none : l ≡ 0 → Between s q p
   pub one : (l ≡ 0 → ⊥) → (l * 32 + 32 ≤ length s) × Between s (next_in s l) p
 
--- b tells of these
-pub record Found (s : List ℕ) (low q l p : ℕ) (b : Overlap) : Type 0 where
+-- b tells of these, and c whether one that overlaps ends past 32 bits
+pub record Found (s : List ℕ) (low q l p : ℕ) (b : Overlap) (c : Bool) : Type 0 where
   pub none : l ≡ 0 → (b.low ≡ low) × (b.first ≡ q)
   pub one : (l ≡ 0 → ⊥) → (b.low ≡ l) × (b.first ≡ next_in s l)
   pub above : b.above ≡ p
-  pub past : AnyPast s b.first p b.past
+  pub past : AnyPast s b.first p c

@@ -1,6 +1,6 @@
 -- What the search for the entries that overlap finds: those below, those that overlap, and those above.
 -- Assumes nothing.
-use Rattle.std.specs.Prelude.{ℕ, suc, ◌+◌, ◌*◌, ◌≤◌, ◌≡◌, Bool, true, false, ◌||◌, List, length}
+use Rattle.std.specs.Prelude.{ℕ, suc, ◌+◌, ◌*◌, ◌≤◌, ◌≡◌, Bool, true, false, ◌||◌, List, length, Option, Some, None}
 use Rattle.definitions.specs.Limits.{node_limit}
 use Rattle.definitions.specs.Usage.{Size, fixed, Usage, Entries, none, entry, size, nodes_in, ◌<+>◌}
 use Rattle.definitions.specs.Place.{ends, past32, ◌≤ˢ◌}
@@ -42,8 +42,9 @@ abbrev pub Starts : Size → Entries → Type 0
 Starts e none = Unit {0}
 Starts e (entry o u es) = (e ≤ˢ fixed o) ≡ true
 
--- es, the entries of the map at record a, are those below, those that overlap what starts at d and ends at e, and those above
-pub record Parted (es : Entries) (r : ℕ → ℕ) (lo hi : ℕ) (s : List ℕ) (a d : ℕ) (e : Size) (b : Overlap) : Type 0 where
+-- es, the entries of the map at record a, are those below, those that overlap what starts at d and ends at e, and those above; past says whether
+-- one that overlaps ends past 32 bits
+pub record Parted (es : Entries) (r : ℕ → ℕ) (lo hi : ℕ) (s : List ℕ) (a d : ℕ) (e : Size) (b : Overlap) (past : Bool) : Type 0 where
   pub low_down : Entries
   pub mid : Entries
   pub high : Entries
@@ -55,10 +56,15 @@ pub record Parted (es : Entries) (r : ℕ → ℕ) (lo hi : ℕ) (s : List ℕ) 
   pub low_ended : Ended d e (onto low_down none)
   pub mid_held : Row mid s b.first b.above r m n
   pub mid_crossing : Crossing d e mid
-  pub mid_past : b.past ≡ any_past mid
+  pub mid_past : past ≡ any_past mid
   pub high_held : Row high s b.above 0 r n hi
   pub high_starts : Starts e high
 
+-- P of what was found, where no entry that overlaps ends past 32 bits; and None where one does
+abbrev pub Told : (Overlap → Bool → Type 0) → Option Overlap → Type 0
+Told P (Some b) = P b false
+Told P None = (b : Overlap) × P b true
+
 -- whatever entries are linked there, and whatever place the number e stands for
-pub record Parts (s : List ℕ) (a d e : ℕ) (b : Overlap) : Type 0 where
-  pub parted : (z : Size) (es : Entries) (r : ℕ → ℕ) (lo hi : ℕ) → Marks e z → Row es s (child_in s a) 0 r lo hi → Finger es s a → Parted es r lo hi s a d z b
+pub record Parts (s : List ℕ) (a d e : ℕ) (b : Option Overlap) : Type 0 where
+  pub parted : (z : Size) (es : Entries) (r : ℕ → ℕ) (lo hi : ℕ) → Marks e z → Row es s (child_in s a) 0 r lo hi → Finger es s a → Told (Parted es r lo hi s a d z) b

@@ -1,13 +1,13 @@
 -- How far the search has come: the entries that it has stepped over, and those that are still linked from a record on.
 -- Assumes nothing.
-use Rattle.std.specs.Prelude.{ℕ, ◌+◌, ◌*◌, ◌≤◌, ◌≡◌, Bool, true, false, List, length}
+use Rattle.std.specs.Prelude.{ℕ, ◌+◌, ◌*◌, ◌≤◌, ◌≡◌, Bool, true, false, List, length, Option}
 use Rattle.definitions.specs.Usage.{Size, fixed, Entries, none, count}
 use Rattle.definitions.specs.Place.{ends, ◌≤ˢ◌}
 use Rattle.records.specs.Records.{size_in, offset_in}
 use Rattle.links.specs.Standing.{Row}
 use Rattle.links.specs.Rows.{Up, link, onto}
 use Rattle.place_search.specs.Numbers.{Marks}
-use Rattle.place_search.specs.Parts.{Ended, Parted}
+use Rattle.place_search.specs.Parts.{Ended, Parted, Told}
 use Rattle.place_search.specs.declared.Overlap.{Overlap}
 
 -- some entries are linked from record q on; k of at most 511 come before them
@@ -60,5 +60,5 @@ pub record Skips (s : List ℕ) (d e low q low' q' : ℕ) : Type 0 where
   pub skips : (z : Size) (es : Entries) (r : ℕ → ℕ) (lo hi a : ℕ) → Marks e z → Begun es r lo hi s a d z low q → Begun es r lo hi s a d z low' q'
 
 -- whatever had begun so is parted by b
-pub record Sought (s : List ℕ) (d e low q : ℕ) (b : Overlap) : Type 0 where
-  pub sought : (z : Size) (es : Entries) (r : ℕ → ℕ) (lo hi a : ℕ) → Marks e z → Begun es r lo hi s a d z low q → Parted es r lo hi s a d z b
+pub record Sought (s : List ℕ) (d e low q : ℕ) (b : Option Overlap) : Type 0 where
+  pub sought : (z : Size) (es : Entries) (r : ℕ → ℕ) (lo hi a : ℕ) → Marks e z → Begun es r lo hi s a d z low q → Told (Parted es r lo hi s a d z) b

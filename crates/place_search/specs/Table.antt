@@ -3,16 +3,18 @@
 use Rattle.std.specs.Prelude.{ℕ, zero, suc, ◌≡◌, Bool, true, false, List, get_or}
 use Rattle.definitions.specs.Usage.{Size, fixed, Entries, none, entry, size}
 use Rattle.definitions.specs.Place.{ends, ◌≤ˢ◌}
-use Rattle.records.specs.Records.{next_in, size_from}
+use Rattle.qptr.specs.Values.{size_of}
+use Rattle.qptr.specs.declared.MaxSize.TheVariants.{Fixed}
+use Rattle.records.specs.Records.{next_in}
 use Rattle.place_search.specs.declared.Entry.{Entry}
 
 -- what a row holds to which nothing was written
 abbrev pub nothing_is : Entry
-nothing_is = record { offset = 0; size = 0; node = 0; fixed = 0 }
+nothing_is = record { offset = 0; size = Fixed 0; node = 0 }
 
 -- the entry ends by d
 abbrev pub ends_by : Entry → ℕ → Bool
-ends_by e d = ends e.offset (size_from e.fixed e.size) ≤ˢ fixed d
+ends_by e d = ends e.offset (size_of e.size) ≤ˢ fixed d
 
 abbrev pub pick : Bool → ℕ → ℕ → ℕ
 pick true a b = a
@@ -26,7 +28,7 @@ top_of t (suc k) d = pick (ends_by (get_or t k nothing_is) d) (get_or t k nothin
 -- the row e is the entry at record q, with this offset and size
 pub record Tells (e : Entry) (o : ℕ) (z : Size) (q : ℕ) : Type 0 where
   pub offset : e.offset ≡ o
-  pub size : size_from e.fixed e.size ≡ z
+  pub size : size_of e.size ≡ z
   pub node : e.node ≡ q
 
 -- the rows from place i on are these entries, which are linked from record q on

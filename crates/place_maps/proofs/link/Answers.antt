@@ -6,5 +6,5 @@ use Rattle.place_maps.proofs.link.Goals as goal
 pub returns-then-low-eq0 : goal.returns-then-low-eq0
 returns-then-low-eq0 c = search (linked_first, rules)
 
-pub returns : goal.returns
-returns c = search (linked_behind, rules)
+pub returns-else-low-eq0 : goal.returns-else-low-eq0
+returns-else-low-eq0 c = search (linked_behind, rules)

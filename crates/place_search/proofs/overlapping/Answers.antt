@@ -7,8 +7,8 @@ use Rattle.place_search.proofs.overlapping.Goals as goal
 pub passes-requires : goal.passes-requires
 passes-requires c = search (finger_within, rules)
 
-pub next-requires : goal.next-requires
-next-requires c = search (finger_inside, rules)
+pub past-requires : goal.past-requires
+past-requires c = search (finger_inside, rules)
 
 pub behind-requires : goal.behind-requires
 behind-requires c = search (finger_linked, rules)

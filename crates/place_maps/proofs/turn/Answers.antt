@@ -1,7 +1,7 @@
--- `place_maps::reverse` meets its contract. The loop keeps what `Turns` says, and one entry less is left in each turn.
+-- `place_maps::turn` meets its contract. The loop keeps what `Turns` says, and one entry less is left in each turn.
 use borrow.Author.Rules.{rules}
 use Rattle.place_maps.proofs.Turning.{turns_start, turns_in, turns_more, turns_less, turns_end}
-use Rattle.place_maps.proofs.reverse.Goals as goal
+use Rattle.place_maps.proofs.turn.Goals as goal
 
 pub loop-p-init : goal.loop-p-init
 loop-p-init c = search (turns_start, rules)
