@@ -1,62 +1,84 @@
 -- The loop of a placing: whatever goal its first state stood for, each later one stands for too, since a turn goes on from what stands, or places or merges the pending pair.
 -- Assumes nothing.
-use Prim.Native.Nat.{ℕ, zero, suc, ◌+◌, ◌*◌, ◌^◌, ◌<◌, ◌≤◌}
-use mathlib.Core.Path.{◌≡◌, refl, ◌∙◌}
-use mathlib.Core.List.{List, [], ◌∷◌, ◌++◌}
-use native.Mathlib.Omega.{arith}
-use lib.ListN.{length, length-append}
+use Rattle.std.proofs.Common.{◌≡◌, ℕ, ◌+◌, ◌*◌, ◌^◌, ◌<◌, ◌≤◌, List, [], ◌∷◌, ◌++◌, length, length-append, refl, sym, ap, ◌∙◌, arith}
+use Rattle.std.specs.Prelude.{Ok, Err}
 use Rattle.definitions.specs.Limits.{max32}
 use Rattle.definitions.specs.Usage.{Usage, nodes}
 use Rattle.definitions.specs.Table.{Setting}
-use Rattle.definitions.specs.Place.{Result, refused, done, place}
+use Rattle.definitions.specs.Place.{Result, refused, place}
+use Rattle.layout.specs.declared.Table.{Table}
 use Rattle.layout.specs.Places.{Known}
 use Rattle.links.specs.Rows.{chain, nodes_at}
 use Rattle.links.proofs.Stands.{stands_root}
-use Rattle.links.proofs.Chains.{chain_zero}
 use Rattle.links.proofs.Weights.{nodes_at_lem}
-use Rattle.place_states.specs.Calls.{Two, Ready, Near, Linkable, Ground, ground, placing, merging, Placed}
-use Rattle.place_states.specs.Beyond.{Beyond, entries, element, joins, heading, entry_head, act, outer}
-use Rattle.place_states.specs.States.{Pending, Next, Short, Waiting, Moves}
+use Rattle.place_states.specs.Calls.{Two, Ready, Near, Linkable, Ground, Done, ground, placing, merging, Placed}
+use Rattle.place_states.specs.Beyond.{Beyond, entries, element, joins, heading, entry_head, resume, act, outer}
+use Rattle.report.specs.declared.Report.{Report}
+use Rattle.place_states.specs.Refusals.{number_of}
+use Rattle.place_states.specs.Ends.{merged_of}
+use Rattle.place_states.specs.States.{Pending, Next, Short, Waiting, Moves, turns}
 use Rattle.place_states.specs.Starts.{Began}
-use Rattle.place_states.specs.Taking.{Took, Gave}
 use Rattle.place_states.specs.declared.State.{State}
-use Rattle.place_states.specs.declared.Outcome.{Outcome}
+use Rattle.place_states.specs.declared.Merged.{Merged}
+use Rattle.place_states.specs.declared.SizeRefusal.{SizeRefusal}
+use Rattle.place_states.specs.declared.Todo.{Todo}
+use Rattle.place_states.specs.declared.Todo.TheVariants.{Finished, Go, Place, Merge}
+use Rattle.place_states.proofs.Ahead.{next_ends, next_holds}
+use Rattle.place_states.proofs.Answering.{done_ok, done_err, refused_done}
 use Rattle.place_states.proofs.Room.{place_short}
 use Rattle.place_rules.specs.Settling.{Settled}
-use Rattle.place_rules.proofs.Settling.{settled_next, settled_todo}
+use Rattle.place_rules.proofs.Settling.{settled_next}
 use Rattle.analyze.proofs.Waits.{outside_chain}
-use Rattle.analyze.proofs.Pairs.{gave, took}
+use Rattle.analyze.proofs.Pairs.{Asks, asks_turns, next_pair, pair_ground, gave, took}
 
 -- each state stands for whatever the first one stood for
-pub record Loop (table places s₀ rep₀ : List ℕ) (st₀ : State) (at a : ℕ) (s rep : List ℕ) (st : State) : Type 0 where
-  pub todo : st.todo ≤ 3
+pub record Loop (table : Table) (s₀ : List ℕ) (rep₀ : Report) (st₀ : State) (at a : ℕ) (s : List ℕ) (rep : Report) (st : State) : Type 0 where
   pub len : length s ≡ length s₀
-  pub rep_len : length rep ≡ length rep₀
-  pub next : (setting : Setting) → Known table places setting → (goal : Result Usage) (g : Ground) (n : ℕ) → g.base ≡ at → Short at goal
+  pub next : (setting : Setting) → Known table setting → (goal : Result Usage) (g : Ground) (n : ℕ) → g.report.at ≡ at → Short at goal
       → Next setting goal g n s₀ rep₀ a st₀ → Next setting goal g n s rep a st
 
-module _ {table places sₑ s₀ repₑ rep₀ : List ℕ} {a d b at : ℕ} {st₀ : State} (B : Began table places sₑ a d b repₑ at s₀ rep₀ st₀) where
-  pub loop_first : Loop table places s₀ rep₀ st₀ at a s₀ rep₀ st₀
-  loop_first = record { todo = B.todo; len = refl; rep_len = refl; next = λ setting known goal g n base short N. N }
+resume_refused : (setting : Setting) (y : Beyond) (o : ℕ) (w : List ℕ) (p k : ℕ) → resume setting y o w p (refused k) ≡ refused k
+unfolding resume
+resume_refused setting y o w p k = refl
 
-module _ {table places sₑ s₀ s repₑ rep₀ rep : List ℕ} {a d b at : ℕ} {st₀ st : State} (R : Ready table places sₑ a b) (near : Near at (nodes_at sₑ a + nodes_at sₑ b))
-    (B : Began table places sₑ a d b repₑ at s₀ rep₀ st₀) (L : Loop table places s₀ rep₀ st₀ at a s rep st) where
-  low : at ≤ 2 ^ 62
+-- what is refused at once
+pub begun_refused : {table : Table} {sₑ s : List ℕ} {repₑ rep : Report} {a d b : ℕ} {e : SizeRefusal} → Began table sₑ a d b repₑ s rep (Err e) → Placed (placing d) table sₑ a b s (Err e) repₑ rep
+unfolding placing
+begun_refused {s} {rep} {d} {e} B = record {
+  done = λ setting known t u r lo mid hi two. refused_done (place setting t d u) (ground _ r lo hi _) s e rep (B.next setting known t u r lo mid hi two);
+}
+
+module _ {table : Table} {sₑ s₀ s : List ℕ} {repₑ rep₀ rep : Report} {a d b : ℕ} {st₀ st : State} (R : Ready table sₑ a b) (near : Near repₑ.at (nodes_at sₑ a + nodes_at sₑ b))
+    (B : Began table sₑ a d b repₑ s₀ rep₀ (Ok st₀)) (L : Loop table s₀ rep₀ st₀ repₑ.at a s rep st) where
+  low : repₑ.at ≤ 2 ^ 62
   low = omega arith
 
   -- of any two usages that stood there
-  stands_for : (setting : Setting) → Known table places setting → (t u : Usage) (r : ℕ → ℕ) (lo mid hi : ℕ) → Two (length setting.table) sₑ a b r lo mid hi t u
-      → Next setting (place setting t d u) (ground sₑ r lo hi repₑ at) (nodes t + nodes u) s rep a st
-  stands_for setting known t u r lo mid hi two = L.next setting known (place setting t d u) (ground sₑ r lo hi repₑ at) (nodes t + nodes u) refl
-      (place_short setting t d u at (omega (arith, two.few)) low) (B.next setting known t u r lo mid hi two)
+  stands_for : (setting : Setting) → Known table setting → (t u : Usage) (r : ℕ → ℕ) (lo mid hi : ℕ) → Two (length setting.table) sₑ a b r lo mid hi t u
+      → Next setting (place setting t d u) (ground sₑ r lo hi repₑ) (nodes t + nodes u) s rep a st
+  stands_for setting known t u r lo mid hi two = L.next setting known (place setting t d u) (ground sₑ r lo hi repₑ) (nodes t + nodes u) refl
+      (place_short setting t d u repₑ.at (omega (arith, two.few)) low) (B.next setting known t u r lo mid hi two)
 
-  pub loop_last : st.todo ≡ 0 → Placed (placing d) table places sₑ a b s st.refusal st.x st.pairings repₑ at rep st.at
+  pub loop_last : st.todo ≡ Finished → Placed (placing d) table sₑ a b s (Ok (merged_of st)) repₑ rep
   unfolding placing
-  loop_last e = record { done = λ setting known t u r lo mid hi two. (stands_for setting known t u r lo mid hi two).ends e }
+  loop_last e = record { done = λ setting known t u r lo mid hi two. next_ends (stands_for setting known t u r lo mid hi two) e }
+
+  -- the pair's refusal is the goal's
+  pub loop_refused : Asks st.todo → {s₂ : List ℕ} {rep₂ : Report} {e : SizeRefusal} {A : Setting → Usage → Usage → Result Usage}
+      → ((setting : Setting) (t u : Usage) → A setting t u ≡ act setting st.todo st.d t u) → Placed A table s st.x st.m s₂ (Err e) rep rep₂
+      → Placed (placing d) table sₑ a b s₂ (Err e) repₑ rep₂
+  unfolding placing
+  loop_refused asks {s₂} {rep₂} {e} {A} is P = record {
+    done = λ setting known t u r lo mid hi two.
+        let Q = next_pair (stands_for setting known t u r lo mid hi two) asks in
+        let D = P.done setting known Q.t Q.u Q.rank Q.c Q.m Q.e Q.two in
+        let x = sym (is setting Q.t Q.u) ∙ done_err (A setting Q.t Q.u) _ s₂ e rep₂ D in
+        refused_done (place setting t d u) (ground sₑ r lo hi repₑ) s₂ e rep₂ (sym Q.comes ∙ ap (resume setting Q.y Q.o Q.w Q.p) x ∙ resume_refused setting Q.y Q.o Q.w Q.p (number_of e));
+  }
 
   -- of the two that the call has at hand
   abbrev here : Ground
-  here = ground sₑ R.r R.lo R.hi repₑ at
+  here = ground sₑ R.r R.lo R.hi repₑ
 
   abbrev all : ℕ
   all = nodes R.t + nodes R.u
@@ -67,9 +89,9 @@ module _ {table places sₑ s₀ s repₑ rep₀ rep : List ℕ} {a d b at : ℕ
   linkable : length s₀ ≡ length sₑ → Linkable s
   linkable l = omega (arith, L.len, R.linkable)
 
-  pub loop_waits : length s₀ ≡ length sₑ → st.todo ≡ 1 → Waiting s a st
+  pub loop_waits : length s₀ ≡ length sₑ → st.todo ≡ Go → Waiting s a st
   loop_waits l held =
-      let H = alive.holds held in
+      let H = next_holds alive held in
       let S = H.standing in
       record {
         k = length R.setting.table;
@@ -92,16 +114,16 @@ module _ {table places sₑ s₀ s repₑ rep₀ rep : List ℕ} {a d b at : ℕ
   nodes_here : all ≡ nodes_at sₑ a + nodes_at sₑ b
   nodes_here = omega (arith, R.two.few, nodes_at_lem R.t sₑ a R.r R.lo R.mid R.two.left (omega (arith, R.two.few)), nodes_at_lem R.u sₑ b R.r R.mid R.hi R.two.right (omega (arith, R.two.few)))
 
-  module _ (pair : 2 ≤ st.todo) where
+  module _ (asks : Asks st.todo) where
     abbrev pending : Pending R.setting (place R.setting R.t d R.u) here all s rep a st
-    pending = alive.goes pair
+    pending = next_pair alive asks
 
     nodes_pair : nodes pending.t + nodes pending.u ≡ nodes_at s st.x + nodes_at s st.m
     nodes_pair =
         let Q = pending in
         omega (arith, Q.two.few, nodes_at_lem Q.t s st.x Q.rank Q.c Q.m Q.two.left (omega (arith, Q.two.few)), nodes_at_lem Q.u s st.m Q.rank Q.m Q.e Q.two.right (omega (arith, Q.two.few)))
 
-    pub pair_less : nodes_at s st.x + nodes_at s st.m < nodes_at sₑ a + nodes_at sₑ b
+    pair_less : nodes_at s st.x + nodes_at s st.m < nodes_at sₑ a + nodes_at sₑ b
     pair_less = omega (arith, nodes_here, nodes_pair, pending.within, outer_some pending.y)
       where
         outer_some : (y : Beyond) → 1 ≤ outer y
@@ -109,7 +131,7 @@ module _ {table places sₑ s₀ s repₑ rep₀ rep : List ℕ} {a d b at : ℕ
         outer_some (element z n) = omega arith
         outer_some (joins z low mid high o) = omega arith
 
-    pub pair_ready : length s₀ ≡ length sₑ → Ready table places s st.x st.m
+    pair_ready : length s₀ ≡ length sₑ → Ready table s st.x st.m
     pair_ready l =
         let Q = pending in
         let T = stands_root Q.t s st.x Q.rank Q.c Q.m Q.two.left in
@@ -136,68 +158,70 @@ module _ {table places sₑ s₀ s repₑ rep₀ rep : List ℕ} {a d b at : ℕ
     headed (element z n) w o = omega (arith, length-append w [])
     headed (joins z low mid high e) w o = omega (arith, length-append (0x30 ∷ w) (entry_head (joins z low mid high e) o))
 
-    pub pair_near : Near st.at (nodes_at s st.x + nodes_at s st.m)
+    pair_near : Near rep.at (nodes_at s st.x + nodes_at s st.m)
     pair_near = let Q = pending in omega (arith, near, pair_less, Q.report.place, headed Q.y Q.w Q.o, Q.brief, Q.room)
+
+    -- what the call for the pair is asked
+    pub pair_asked : length s₀ ≡ length sₑ → (nodes_at s st.x + nodes_at s st.m < nodes_at sₑ a + nodes_at sₑ b) × Ready table s st.x st.m × Near rep.at (nodes_at s st.x + nodes_at s st.m)
+    pair_asked l = (pair_less, pair_ready l, pair_near)
 
 -- Turns
 
-module _ {table places s₀ s rep₀ rep : List ℕ} {st₀ st : State} {at a : ℕ} (L : Loop table places s₀ rep₀ st₀ at a s rep st) where
-  pub loop_step : st.todo ≡ 1 → {s₂ rep₂ : List ℕ} {st' : State} → length s₂ ≡ length s → length rep₂ ≡ length rep → Moves s rep a st s₂ rep₂ st' → Loop table places s₀ rep₀ st₀ at a s₂ rep₂ st'
-  loop_step held {s₂} {rep₂} {st'} ls lr M = record {
-    todo = M.todo;
+module _ {table : Table} {s₀ s : List ℕ} {rep₀ rep : Report} {st₀ st : State} {at a : ℕ} (L : Loop table s₀ rep₀ st₀ at a s rep st) where
+  pub loop_step : st.todo ≡ Go → {s₂ : List ℕ} {rep₂ : Report} {st' : State} → length s₂ ≡ length s → Moves s rep a st s₂ rep₂ st' → Loop table s₀ rep₀ st₀ at a s₂ rep₂ st'
+  loop_step held {s₂} {rep₂} {st'} ls M = record {
     len = ls ∙ L.len;
-    rep_len = lr ∙ L.rep_len;
     next = λ setting known goal g n base short N. on setting goal g n base short (L.next setting known goal g n base short N);
   }
     where
-      on : (setting : Setting) (goal : Result Usage) (g : Ground) (n : ℕ) → g.base ≡ at → Short at goal → Next setting goal g n s rep a st → Next setting goal g n s₂ rep₂ a st'
+      on : (setting : Setting) (goal : Result Usage) (g : Ground) (n : ℕ) → g.report.at ≡ at → Short at goal → Next setting goal g n s rep a st → Next setting goal g n s₂ rep₂ a st'
       on setting goal g n base short X =
-          let H = X.holds held in
-          let brief : Short g.base goal = rw base short in
+          let H = next_holds X held in
+          let brief : Short g.report.at goal = rw base short in
           rw H.comes at (M.next setting H.y H.u H.w H.p g n H.within H.standing (rw (← H.comes) at brief))
 
   -- the call's answer A is what the state asks for
-  module _ (pair : 2 ≤ st.todo) (near : at ≤ 2 ^ 62) (d-fits : st.d ≤ max32) {s₂ rep₂ : List ℕ} {r : Outcome} {A : Setting → Usage → Usage → Result Usage}
-      (is : (setting : Setting) (t u : Usage) → A setting t u ≡ act setting st.todo st.d t u)
-      (P : Placed A table places s st.x st.m s₂ r.refusal r.node r.pairings rep st.at rep₂ r.at) where
-    took_pair : (setting : Setting) → Known table places setting → (goal : Result Usage) (g : Ground) (n : ℕ) → g.base ≡ at → Next setting goal g n s rep a st → Took setting goal g n s₂ rep₂ a st r
-    took_pair setting known goal g n base X =
-        let Q = X.goes pair in
-        took Q s₂ rep₂ r d-fits (omega arith) (rw (is setting Q.t Q.u) at (P.done setting known Q.t Q.u Q.rank Q.c Q.m Q.e Q.two))
+  module _ (asks : Asks st.todo) (near : at ≤ 2 ^ 62) {s₂ : List ℕ} {rep₂ rep₃ : Report} {r : Merged} {A : Setting → Usage → Usage → Result Usage}
+      (is : (setting : Setting) (t u : Usage) → A setting t u ≡ act setting st.todo st.d t u) (P : Placed A table s st.x st.m s₂ (Ok r) rep rep₂)
+      {st' : State} (D : Settled st rep.at r rep₂ rep₃ st') (d-fits : st'.d ≤ max32) where
+    was-fits : st.d ≤ max32
+    was-fits = omega (arith, ap (λ (x : State). x.d) D.state)
 
-    pub loop_again : {st' : State} → length s₂ ≡ length s → length rep₂ ≡ length rep → Settled st r st' → Loop table places s₀ rep₀ st₀ at a s₂ rep₂ st'
-    loop_again {st'} ls lr D = record {
-      todo = settled_todo D;
+    done_pair : (setting : Setting) → Known table setting → {goal : Result Usage} {g : Ground} {n : ℕ} (Q : Pending setting goal g n s rep a st)
+        → Done (act setting st.todo st.d Q.t Q.u) (pair_ground Q) s₂ (Ok r) rep₂
+    done_pair setting known Q = rw (is setting Q.t Q.u) at (P.done setting known Q.t Q.u Q.rank Q.c Q.m Q.e Q.two)
+
+    pub loop_again : length s₂ ≡ length s → Loop table s₀ rep₀ st₀ at a s₂ rep₃ st'
+    loop_again ls = record {
       len = ls ∙ L.len;
-      rep_len = lr ∙ L.rep_len;
-      next = λ setting known goal g n base short N. settled_next D (took_pair setting known goal g n base (L.next setting known goal g n base short N));
+      next = λ setting known goal g n base short N.
+          let Q = next_pair (L.next setting known goal g n base short N) asks in settled_next D (took Q s₂ rep₂ r was-fits (omega arith) (done_pair setting known Q));
     }
 
-    -- where the call was refused nothing comes after; else what comes after is linked as before
-    pub chain_less : (setting : Setting) → Known table places setting → {goal : Result Usage} {g : Ground} {n : ℕ} → Next setting goal g n s rep a st → {st' : State} → Settled st r st'
-        → chain 65536 s₂ st'.rest * 4 + st'.todo < chain 65536 s st.rest * 4 + st.todo
-    chain_less setting known {goal} {g} {n} X {st'} D =
-        let Q = X.goes pair in
-        go Q (act setting st.todo st.d Q.t Q.u) (gave Q s₂ rep₂ r d-fits (act setting st.todo st.d Q.t Q.u) refl
-        (rw (is setting Q.t Q.u) at (P.done setting known Q.t Q.u Q.rank Q.c Q.m Q.e Q.two)))
-      where
-        go : (Q : Pending setting goal g n s rep a st) (v : Result Usage) → Gave (length setting.table) Q.y Q.o Q.w Q.p g n v s₂ rep₂ a st r
-            → chain 65536 s₂ st'.rest * 4 + st'.todo < chain 65536 s st.rest * 4 + st.todo
-        go Q (refused i) G = rw (D.refused (λ z. omega (arith, G.0, G.1))) (omega (arith, chain_zero 65536 s₂))
-        go Q (done u w p) G =
-            let before = outside_chain (length setting.table) Q.y s a st Q.rank g.lo Q.c Q.e g.hi (omega (arith, Q.few)) Q.outside in
-            let after = outside_chain (length setting.table) Q.y s₂ a st G.rank g.lo G.c G.e g.hi (omega (arith, Q.few)) G.outside in
-            rw (D.stays G.answered).state (omega (arith, before, after))
+    -- what comes after is linked as before
+    pub chain_less : (setting : Setting) → Known table setting → {goal : Result Usage} {g : Ground} {n : ℕ} → Next setting goal g n s rep a st
+        → chain 65536 s₂ st'.rest * 3 + turns st'.todo < chain 65536 s st.rest * 3 + turns st.todo
+    chain_less setting known {g} X =
+        let Q = next_pair X asks in
+        let V = done_ok (act setting st.todo st.d Q.t Q.u) (done_pair setting known Q) in
+        let G = gave Q s₂ rep₂ r was-fits V.is V.answered in
+        let before = outside_chain (length setting.table) Q.y s a st Q.rank g.lo Q.c Q.e g.hi (omega (arith, Q.few)) Q.outside in
+        let after = outside_chain (length setting.table) Q.y s₂ a st G.rank g.lo G.c G.e g.hi (omega (arith, Q.few)) G.outside in
+        rw D.state (omega (arith, before, after, asks_turns st.todo asks))
 
 -- the two calls that a state asks for
 
-pub is_merging : (todo d : ℕ) → todo ≡ 3 → (setting : Setting) (t u : Usage) → merging setting t u ≡ act setting todo d t u
+pub is_merging : (todo : Todo) (d : ℕ) → todo ≡ Merge → (setting : Setting) (t u : Usage) → merging setting t u ≡ act setting todo d t u
 unfolding merging act
-is_merging todo d e setting t u = rw e
+is_merging todo d e setting t u = rw e refl
 
-pub is_placing : (todo d : ℕ) → todo ≤ 3 → (todo ≡ 3 → ⊥) → (setting : Setting) (t u : Usage) → placing d setting t u ≡ act setting todo d t u
+pub is_placing : (todo : Todo) (d : ℕ) → todo ≡ Place → (setting : Setting) (t u : Usage) → placing d setting t u ≡ act setting todo d t u
 unfolding placing act
-is_placing zero d le ne setting t u = refl
-is_placing (suc zero) d le ne setting t u = refl
-is_placing (suc (suc zero)) d le ne setting t u = refl
-is_placing (suc (suc (suc n))) d le ne setting t u = absurd (ne (omega arith))
+is_placing todo d e setting t u = rw e refl
+
+-- the turn that the loop takes where it is none of the others
+pub last_turn : (v : Todo) → (v ≡ Finished → ⊥) → (v ≡ Go → ⊥) → (v ≡ Merge → ⊥) → v ≡ Place
+last_turn Finished f g m = absurd (f refl)
+last_turn Go f g m = absurd (g refl)
+last_turn Place f g m = refl
+last_turn Merge f g m = absurd (m refl)

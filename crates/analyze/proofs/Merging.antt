@@ -1,11 +1,9 @@
 -- Merging is placing at 0 in the one that receives, which the two roots tell: only sizes and commands are asked for. Where the second
 -- receives, the two change their ranks and nothing else.
 -- Assumes nothing.
-use Prim.Native.Nat.{ℕ, ◌+◌, ◌-◌, ◌≤◌}
-use mathlib.Core.Path.{◌≡◌, refl, sym, ◌∙◌}
-use mathlib.Core.Bool.{Bool, true, false}
-use mathlib.Core.List.{List}
-use native.Mathlib.Omega.{arith}
+use Rattle.std.proofs.Common.{◌≡◌, ℕ, ◌+◌, ◌-◌, ◌≤◌, Bool, true, false, List, refl, sym, ◌∙◌, arith}
+use Rattle.std.specs.Prelude.{Result as Returned, Ok, Err}
+use Rattle.layout.specs.declared.Table.{Table}
 use Rattle.definitions.specs.If.{when◌then◌else◌}
 use Rattle.definitions.specs.Usage.{Usage, unused, leaf, map, array, none, size}
 use Rattle.definitions.specs.Command.{head_of, strictness}
@@ -19,6 +17,9 @@ use Rattle.links.proofs.Stands.{stands_root, stands_le}
 use Rattle.links.proofs.Frames.{kept_trans}
 use Rattle.links.proofs.Ranks.{rot_kept, rot_left, rot_right}
 use Rattle.place_states.specs.Calls.{Two, Ready, Done, ground, placing, merging, Placed}
+use Rattle.report.specs.declared.Report.{Report}
+use Rattle.place_states.specs.declared.Merged.{Merged}
+use Rattle.place_states.specs.declared.SizeRefusal.{SizeRefusal}
 use Rattle.analyze.specs.Tops.{Top}
 
 -- with nothing but a size and a command
@@ -44,12 +45,11 @@ bare_receives : (u v : Usage) → first_receives (bare u) (bare v) ≡ first_rec
 bare_receives u v = rw (bare_size u, bare_size v, bare_strictness u, bare_strictness v)
 
 bare_stands : (u : Usage) {s : List ℕ} {q : ℕ} {r : ℕ → ℕ} {lo hi : ℕ} {x : Node} → Root s q r lo hi (head_of u).command (size u) → Top s q x → IsNode x (bare u)
-unfolding when◌then◌else◌
-bare_stands (unused z) H T = T.part ∙ rw (H.command, H.size)
-bare_stands (leaf z true t) H T = T.part ∙ rw (H.command, H.size)
-bare_stands (leaf z false t) H T = T.part ∙ rw (H.command, H.size)
-bare_stands (map z es) H T = T.part ∙ rw (H.command, H.size)
-bare_stands (array z n e) H T = T.part ∙ rw (H.command, H.size)
+bare_stands (unused z) H T = T.part ∙ rw (H.command, H.size) refl
+bare_stands (leaf z true t) H T = T.part ∙ rw (H.command, H.size) refl
+bare_stands (leaf z false t) H T = T.part ∙ rw (H.command, H.size) refl
+bare_stands (map z es) H T = T.part ∙ rw (H.command, H.size) refl
+bare_stands (array z n e) H T = T.part ∙ rw (H.command, H.size) refl
 
 module _ {k : ℕ} {s : List ℕ} {a b : ℕ} {r : ℕ → ℕ} {lo mid hi : ℕ} {t u : Usage} (two : Two k s a b r lo mid hi t u) where
   roots_receive : {x y : Node} {f : Bool} → Top s a x → Top s b y → Receives x y f → f ≡ first_receives t u
@@ -72,7 +72,7 @@ module _ {k : ℕ} {s : List ℕ} {a b : ℕ} {r : ℕ → ℕ} {lo mid hi : ℕ
     few = omega (arith, two.few);
   }
 
-pub ready_swap : {table places s : List ℕ} {a b : ℕ} → Ready table places s a b → Ready table places s b a
+pub ready_swap : {table : Table} {s : List ℕ} {a b : ℕ} → Ready table s a b → Ready table s b a
 ready_swap R = record {
   setting = R.setting;
   known = R.known;
@@ -100,11 +100,12 @@ module _ (setting : Setting) (a b : Usage) where
   merges_right e = rw e
 
 -- what began with the ranks exchanged began with them as they were
-module _ (s : List ℕ) (r : ℕ → ℕ) (lo mid hi : ℕ) (rep : List ℕ) (at : ℕ) (s' : List ℕ) (ref x p : ℕ) (rep' : List ℕ) (at' : ℕ) where
-  swapped_back : lo ≤ mid → mid ≤ hi → (z : Result Usage) → Done z (ground s (rotated r lo mid hi) lo hi rep at) s' ref x p rep' at' → Done z (ground s r lo hi rep at) s' ref x p rep' at'
-  swapped_back le he (refused k) D = D
-  swapped_back le he (done u w q) D = record {
-    answered = D.answered;
+module _ (s : List ℕ) (r : ℕ → ℕ) (lo mid hi : ℕ) (rep : Report) (s' : List ℕ) (rep' : Report) (le : lo ≤ mid) (he : mid ≤ hi) where
+  swapped_back : (goal : Result Usage) (x : Returned Merged SizeRefusal) → Done goal (ground s (rotated r lo mid hi) lo hi rep) s' x rep' → Done goal (ground s r lo hi rep) s' x rep'
+  swapped_back (refused k) (Ok m) D = D
+  swapped_back (refused k) (Err e) D = D
+  swapped_back (done u w q) (Err e) D = D
+  swapped_back (done u w q) (Ok m) D = record {
     rank = D.rank;
     kept = kept_trans s s s' r (rotated r lo mid hi) D.rank lo hi (rot_kept s r lo mid hi le he) D.kept;
     stands = D.stands;
@@ -112,19 +113,17 @@ module _ (s : List ℕ) (r : ℕ → ℕ) (lo mid hi : ℕ) (rep : List ℕ) (at
     report = D.report;
   }
 
-module _ {table places s : List ℕ} {a b : ℕ} {x y : Node} {f : Bool} {s' : List ℕ} {ref n p : ℕ} {rep : List ℕ} {at : ℕ} {rep' : List ℕ} {at' : ℕ} where
-  pub merged_left : Top s a x → Top s b y → Receives x y f → f ≡ true → Placed (placing 0) table places s a b s' ref n p rep at rep' at'
-      → Placed merging table places s a b s' ref n p rep at rep' at'
+module _ {table : Table} {s : List ℕ} {a b : ℕ} {x y : Node} {f : Bool} {s' : List ℕ} {r : Returned Merged SizeRefusal} {rep rep' : Report} where
+  pub merged_left : Top s a x → Top s b y → Receives x y f → f ≡ true → Placed (placing 0) table s a b s' r rep rep' → Placed merging table s a b s' r rep rep'
   unfolding placing merging
   merged_left X Y R e P = record {
-    done = λ setting known t u r lo mid hi two. rw (merges_left setting t u (sym (roots_receive two X Y R) ∙ e)) at (P.done setting known t u r lo mid hi two);
+    done = λ setting known t u rank lo mid hi two. rw (merges_left setting t u (sym (roots_receive two X Y R) ∙ e)) at (P.done setting known t u rank lo mid hi two);
   }
 
-  pub merged_right : Top s a x → Top s b y → Receives x y f → f ≡ false → Placed (placing 0) table places s b a s' ref n p rep at rep' at'
-      → Placed merging table places s a b s' ref n p rep at rep' at'
+  pub merged_right : Top s a x → Top s b y → Receives x y f → f ≡ false → Placed (placing 0) table s b a s' r rep rep' → Placed merging table s a b s' r rep rep'
   unfolding placing merging
   merged_right X Y R e P = record {
-    done = λ setting known t u r lo mid hi two.
-        rw (merges_right setting t u (sym (roots_receive two X Y R) ∙ e)) at (swapped_back s r lo mid hi rep at s' ref n p rep' at' (low two) (high two) (place setting u 0 t)
-        (P.done setting known u t (rotated r lo mid hi) lo (lo + (hi - mid)) hi (two_swap two)));
+    done = λ setting known t u rank lo mid hi two.
+        rw (merges_right setting t u (sym (roots_receive two X Y R) ∙ e)) at (swapped_back s rank lo mid hi rep s' rep' (low two) (high two) (place setting u 0 t) r
+        (P.done setting known u t (rotated rank lo mid hi) lo (lo + (hi - mid)) hi (two_swap two)));
   }

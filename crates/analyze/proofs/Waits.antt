@@ -1,9 +1,6 @@
 -- The pair lies inside of the ranks of all, and what comes after it waits where a call on the pair leaves it.
 -- Assumes nothing.
-use Prim.Native.Nat.{ℕ, ◌+◌, ◌≤◌}
-use mathlib.Core.Path.{◌≡◌, sym, ap, ◌∙◌}
-use mathlib.Core.List.{List}
-use native.Mathlib.Omega.{arith}
+use Rattle.std.proofs.Common.{◌≡◌, ℕ, ◌+◌, ◌≤◌, List, sym, ap, ◌∙◌, arith}
 use Rattle.definitions.specs.Usage.{Entries, none, entry, count}
 use Rattle.links.specs.Rows.{onto, chain}
 use Rattle.links.proofs.Stands.{row_le}

@@ -1,7 +1,8 @@
 -- A leaf stays a leaf where it stood, with the type that is kept, strict if either was: so rule 4 ends where it begins.
 -- Assumes nothing.
-use Prim.Native.Nat.{ℕ, ◌+◌, ◌<◌}
-use mathlib.Core.Path.{◌≡◌, refl}
+use Prim.Native.Nat.{ℕ, ◌+◌}
+use mathlib.Core.Path.{◌≡◌, refl, ap, ◌∙◌}
+use Rattle.std.specs.Prelude.{Ok}
 use mathlib.Core.Bool.{Bool, true, false, ◌||◌}
 use mathlib.Core.List.{List, []}
 use native.Mathlib.Omega.{arith}
@@ -15,7 +16,11 @@ use Rattle.links.proofs.Stands.{stands_le, stands_marks, stands_wide}
 use Rattle.links.proofs.Frames.{kept_marks, kept_set, kept_trans, kept_widen}
 use Rattle.links.proofs.Changes.{stands_type}
 use Rattle.layout.specs.Places.{Known}
+use Rattle.layout.specs.declared.Table.{Table}
+use Rattle.qptr.specs.Values.{command_of, kind_of}
+use Rattle.qptr.specs.declared.Kind.{Kind}
 use Rattle.report.specs.Emitted.{Emitted}
+use Rattle.report.specs.declared.Report.{Report}
 use Rattle.place_states.specs.Calls.{Two, ground}
 use Rattle.place_states.specs.States.{Next}
 use Rattle.place_states.specs.Starts.{Plain, Begins}
@@ -29,37 +34,37 @@ use Rattle.place_leaf.specs.Leaves.{Typed, Stricter, report_of, Keeps}
 use Rattle.place_leaf.specs.declared.Kept.{Kept}
 use Rattle.place_leaf.proofs.Typing.{IsLeaf, is_leaf, left_leaf}
 
-strict_command : (k : Bool) (b : Usage) (r : ℕ) → Stricter (typed_command k) (head_of b).command r → r ≡ typed_command (k || is_strict b)
-strict_command true b r S = S.left refl
-strict_command false (unused z) r S = S.neither (omega arith) (omega arith)
-strict_command false (leaf z true t) r S = S.right refl
-strict_command false (leaf z false t) r S = S.neither (omega arith) (omega arith)
-strict_command false (map z es) r S = S.neither (omega arith) (omega arith)
-strict_command false (array z n e) r S = S.neither (omega arith) (omega arith)
+-- the kinds of a leaf and of b are told by their commands
+strict_command : (k : Bool) (b : Usage) {x y v : Kind} → x ≡ kind_of (typed_command k) → y ≡ kind_of (head_of b).command → Stricter x y v → command_of v ≡ typed_command (k || is_strict b)
+strict_command true b e f S = ap command_of (S.left e)
+strict_command false (unused z) e f S = ap command_of (S.neither (λ h. cc) (λ h. cc))
+strict_command false (leaf z true t) e f S = ap command_of (S.right f)
+strict_command false (leaf z false t) e f S = ap command_of (S.neither (λ h. cc) (λ h. cc))
+strict_command false (map z es) e f S = ap command_of (S.neither (λ h. cc) (λ h. cc))
+strict_command false (array z n u) e f S = ap command_of (S.neither (λ h. cc) (λ h. cc))
 
-pub leaf_begins : (table places s s₁ s' rep rep' : List ℕ) (a d b at end c₀ c₁ c : ℕ) (kept : Kept) (st : State) → Plain (command_in s b) d → Typed (command_in s a)
-    → Keeps table places s a d b kept → Unchanged s s₁ → (c₀ ≡ command_in s₁ a) × (c₀ < 65536) → (c₁ ≡ command_in s₁ b) × (c₁ < 65536) → Stricter c₀ c₁ c
-    → Set s₁ s' a (with_type c kept.ty (cell s₁ a)) → length s' ≡ length s₁ → Emitted rep at (report_of kept.conflict kept.ty) rep' end → st ≡ finished_state a 1 end
-    → Begins table places s a d b rep at s' rep' st
-leaf_begins table places s s₁ s' rep rep' a d b at end c₀ c₁ c kept st plain T K U e₀ e₁ S W len E e = rw e (record {
-  todo = omega arith;
+pub leaf_begins : (table : Table) (s s₁ s' : List ℕ) (rep rep' : Report) (a d b : ℕ) (x y v : Kind) (kept : Kept) (st : State) → Plain (command_in s b) d → Typed (command_in s a)
+    → Keeps table s a d b kept → Unchanged s s₁ → x ≡ kind_of (command_in s₁ a) → y ≡ kind_of (command_in s₁ b) → Stricter x y v
+    → Set s₁ s' a (with_type (command_of v) kept.ty (cell s₁ a)) → length s' ≡ length s₁ → Emitted rep (report_of kept.conflict kept.ty) rep' → st ≡ finished_state a 1
+    → Begins table s a d b rep s' rep' (Ok st)
+leaf_begins table s s₁ s' rep rep' a d b x y v kept st plain T K U e₀ e₁ S W len E e = rw e (record {
   next = λ setting known t u r lo mid hi two short. go setting known u r lo mid hi (left_leaf two T) two;
 })
   where
-    go : (setting : Setting) → Known table places setting → (u : Usage) (r : ℕ → ℕ) (lo mid hi : ℕ) {t : Usage} → IsLeaf t → Two (length setting.table) s a b r lo mid hi t u
-        → Next setting (after [] 1 (place_by_kind setting (place setting) t d u)) (ground s r lo hi rep at) (nodes t + nodes u) s' rep' a (finished_state a 1 end)
+    go : (setting : Setting) → Known table setting → (u : Usage) (r : ℕ → ℕ) (lo mid hi : ℕ) {t : Usage} → IsLeaf t → Two (length setting.table) s a b r lo mid hi t u
+        → Next setting (after [] 1 (place_by_kind setting (place setting) t d u)) (ground s r lo hi rep) (nodes t + nodes u) s' rep' a (finished_state a 1)
     go setting known u r lo mid hi (is_leaf z k t) two =
-        let strict : c ≡ typed_command (k || is_strict u) = strict_command k u c (rw (e₀.0, e₁.0, command_stays U a, command_stays U b, left_command two, right_command two) at S) in
+        let strict : command_of v ≡ typed_command (k || is_strict u) =
+        strict_command k u (e₀ ∙ ap kind_of (command_stays U a ∙ left_command two)) (e₁ ∙ ap kind_of (command_stays U b ∙ right_command two)) S in
         let root = left_root two in
         let high = stands_le u s b r mid hi two.right in
         rw (right_plain two setting (place setting) d plain, ← K.is setting known z k t u r lo mid hi two)
-        (next_finished setting (ground s r lo hi rep at) _ s' rep' a _ a 1 end (record {
-          answered = refl;
+        (next_finished setting (ground s r lo hi rep) _ s' rep' a _ a 1 (record {
           rank = r;
           kept = kept_trans s s₁ s' r r r lo hi (kept_marks s s₁ r lo hi U.len U.same)
-              (kept_widen s₁ s' r r lo mid lo hi (omega arith) (omega arith) (kept_set s₁ s' r lo mid a (with_type c kept.ty (cell s₁ a)) len root.low root.high W));
+              (kept_widen s₁ s' r r lo mid lo hi (omega arith) (omega arith) (kept_set s₁ s' r lo mid a (with_type (command_of v) kept.ty (cell s₁ a)) len root.low root.high W));
           stands = stands_wide (leaf z (k || is_strict u) kept.ty) s' a r lo mid lo hi (omega arith) (omega arith)
-              (stands_type z k t (k || is_strict u) kept.ty s₁ s' a r lo mid c len strict W (stands_marks (leaf z k t) s s₁ a r lo mid U.len U.same two.left));
+              (stands_type z k t (k || is_strict u) kept.ty s₁ s' a r lo mid (command_of v) len strict W (stands_marks (leaf z k t) s s₁ a r lo mid U.len U.same two.left));
           pairs = refl;
           report = E;
         }))

@@ -1,22 +1,28 @@
 -- A leaf's record says its type, and b has one at 0 exactly if d is 0 and its command is a leaf's.
 -- Assumes nothing.
-use Prim.Native.Nat.{ℕ, zero, suc, ◌<◌}
+use Prim.Native.Nat.{ℕ, zero, suc, ◌<◌, ◌≤◌}
 use mathlib.Core.Path.{◌≡◌, refl, sym, ap, ◌∙◌}
 use mathlib.Core.Bool.{Bool, true, false}
 use mathlib.Core.List.{List}
+use mathlib.Core.Logic.{◌⊎◌, ⊎_elim}
 use mathlib.Core.Option.{none as nothing, some}
+use Rattle.std.specs.Prelude.{Some, None}
 use native.Mathlib.Omega.{arith}
 use lib.ListN.{length}
 use Rattle.definitions.specs.Usage.{Size, Usage, unused, leaf, map, array}
 use Rattle.definitions.specs.Command.{head_of}
 use Rattle.definitions.specs.Place.{type_at_zero}
+use Rattle.qptr.specs.Values.{command_of, kind_of}
+use Rattle.qptr.specs.declared.Kind.{Kind}
+use Rattle.qptr.specs.declared.Kind.TheVariants.{Unused, StrictlyTyped, DirectAccess, OffsetBase, DynOffsetBase}
 use Rattle.records.specs.Records.{command_in, argument_in}
 use Rattle.links.specs.Standing.{Stands}
 use Rattle.links.proofs.Stands.{stands_root}
+use Rattle.layout.specs.declared.Table.{Table}
+use Rattle.support_memory.proofs.Roots.{command_of_kind}
 use Rattle.place_states.specs.Calls.{Two, Ready}
 use Rattle.place_states.proofs.Roots.{left_command}
 use Rattle.support.specs.Known.{Askable}
-use Rattle.support.specs.Answers.{OfEach}
 use Rattle.place_leaf.specs.Leaves.{Typed, TypeAt}
 
 pub data IsLeaf : Usage → Type 0 where
@@ -38,42 +44,44 @@ module _ {k : ℕ} {s : List ℕ} {a b : ℕ} {r : ℕ → ℕ} {lo mid hi : ℕ
 
 -- whether b has a type at 0
 
-module _ (s : List ℕ) (q d : ℕ) where
-  pub types_later : (d ≡ 0 → ⊥) → TypeAt s q d false
+module _ {s : List ℕ} {q d : ℕ} where
+  pub types_later : (d ≡ 0 → ⊥) → TypeAt s q d None
   types_later ne = record { is = λ u r lo hi h. go d ne u }
     where
       go : (n : ℕ) → (n ≡ 0 → ⊥) → (u : Usage) → type_at_zero n u ≡ nothing
       go zero h u = absurd (h refl)
       go (suc n) h u = refl
 
-  module _ (c : ℕ) (here : c ≡ command_in s q) (first : d ≡ 0) where
-    command_is : OfEach s q λ u. c ≡ (head_of u).command
-    command_is u r lo hi h = here ∙ (stands_root u s q r lo hi h).command
-
-    types_first : Typed c → TypeAt s q d true
-    types_first T = rw first (record { is = λ u r lo hi h. go u r lo hi h (command_is u r lo hi h) })
+  module _ {k : Kind} (first : d ≡ 0) (x : k ≡ kind_of (command_in s q)) where
+    pub types_leaf : {t : ℕ} → (k ≡ StrictlyTyped) ⊎ (k ≡ DirectAccess) → t ≡ argument_in s q → TypeAt s q d (Some t)
+    types_leaf {t} l f = rw first (record {
+      is = λ u r lo hi h.
+          let is : (v : Kind) → k ≡ v → command_in s q ≡ command_of v = command_of_kind u s q r lo hi h x in
+          let leaf : (1 ≤ command_in s q) × (command_in s q ≤ 2) = ⊎_elim (λ e. (omega (arith, is StrictlyTyped e), omega (arith, is StrictlyTyped e))) (λ e. (omega (arith, is DirectAccess e), omega (arith, is DirectAccess e))) l in
+          go u r lo hi h (stands_root u s q r lo hi h).command leaf.0 leaf.1;
+    })
       where
-        go : (u : Usage) (r : ℕ → ℕ) (lo hi : ℕ) → Stands u s q r lo hi → c ≡ (head_of u).command → type_at_zero 0 u ≡ some (argument_in s q)
-        go (unused z) r lo hi h e = absurd (T.used e)
-        go (leaf z k t) r lo hi h e = ap some (sym (leaf_type z k t s q r lo hi h))
-        go (map z es) r lo hi h e = absurd (T.no_map e)
-        go (array z n v) r lo hi h e = absurd (T.no_array e)
+        go : (u : Usage) (r : ℕ → ℕ) (lo hi : ℕ) → Stands u s q r lo hi → command_in s q ≡ (head_of u).command → 1 ≤ command_in s q → command_in s q ≤ 2 → type_at_zero 0 u ≡ some t
+        go (unused z) r lo hi h e m n = absurd (omega arith)
+        go (leaf z k t') r lo hi h e m n = ap some (sym (f ∙ leaf_type z k t' s q r lo hi h))
+        go (map z es) r lo hi h e m n = absurd (omega arith)
+        go (array z i v) r lo hi h e m n = absurd (omega arith)
 
-    pub types_strict : c ≡ 1 → TypeAt s q d true
-    types_strict h = types_first (record { used = omega arith; no_map = omega arith; no_array = omega arith })
-
-    pub types_direct : c ≡ 2 → TypeAt s q d true
-    types_direct h = types_first (record { used = omega arith; no_map = omega arith; no_array = omega arith })
-
-    pub types_none : (c ≡ 1 → ⊥) → (c ≡ 2 → ⊥) → TypeAt s q d false
-    types_none strict direct = rw first (record { is = λ u r lo hi h. go u (command_is u r lo hi h) })
+    pub types_none : (k ≡ Unused) ⊎ ((k ≡ OffsetBase) ⊎ (k ≡ DynOffsetBase)) → TypeAt s q d None
+    types_none n = rw first (record {
+      is = λ u r lo hi h.
+          let is : (v : Kind) → k ≡ v → command_in s q ≡ command_of v = command_of_kind u s q r lo hi h x in
+          let apart : 1 ≤ command_in s q → command_in s q ≤ 2 → ⊥ =
+          ⊎_elim (λ e m n. omega (arith, is Unused e)) (⊎_elim (λ e m n. omega (arith, is OffsetBase e)) (λ e m n. omega (arith, is DynOffsetBase e))) n in
+          go u (stands_root u s q r lo hi h).command apart;
+    })
       where
-        go : (u : Usage) → c ≡ (head_of u).command → type_at_zero 0 u ≡ nothing
-        go (unused z) e = refl
-        go (leaf z true t) e = absurd (strict e)
-        go (leaf z false t) e = absurd (direct e)
-        go (map z es) e = refl
-        go (array z n v) e = refl
+        go : (u : Usage) → command_in s q ≡ (head_of u).command → (1 ≤ command_in s q → command_in s q ≤ 2 → ⊥) → type_at_zero 0 u ≡ nothing
+        go (unused z) e f = refl
+        go (leaf z true t) e f = absurd (f (omega arith) (omega arith))
+        go (leaf z false t) e f = absurd (f (omega arith) (omega arith))
+        go (map z es) e f = refl
+        go (array z n v) e f = refl
 
 -- it is then a leaf of that type
 pub data LeafOf (c : ℕ) : Usage → Type 0 where
@@ -88,8 +96,8 @@ typed_at zero (array z n v) e = let z : ◌≡◌ {A = ℕ} 0 1 = cc in absurd (
 
 -- what may be asked
 
-module _ {table places s : List ℕ} {a b : ℕ} (R : Ready table places s a b) where
-  pub askable_right : {ty : ℕ} → Typed (command_in s a) → ty ≡ argument_in s a → Askable table places ty s b
+module _ {table : Table} {s : List ℕ} {a b : ℕ} (R : Ready table s a b) where
+  pub askable_right : {ty : ℕ} → Typed (command_in s a) → ty ≡ argument_in s a → Askable table ty s b
   askable_right {ty} T e = record {
     type = record { setting = R.setting; known = R.known; below = go (left_leaf R.two T) R.two };
     usage = record {
@@ -107,12 +115,12 @@ module _ {table places s : List ℕ} {a b : ℕ} (R : Ready table places s a b) 
       go : {t : Usage} → IsLeaf t → Two (length R.setting.table) s a b R.r R.lo R.mid R.hi t R.u → ty < length R.setting.table
       go (is_leaf z k t) two = omega (arith, two.left_fits.1, leaf_type z k t s a R.r R.lo R.mid two.left)
 
-  pub askable_left : {d : ℕ} {t : Bool} {c : ℕ} → TypeAt s b d t → t ≡ true → c ≡ argument_in s b → Askable table places c s a
-  askable_left {d} {c} A t e = record {
+  pub askable_left : {d c : ℕ} → TypeAt s b d (Some c) → Askable table c s a
+  askable_left {d} {c} A = record {
     type = record {
       setting = R.setting;
       known = R.known;
-      below = go (typed_at d R.u (A.is R.u R.r R.mid R.hi R.two.right ∙ rw (t, e) refl)) R.two;
+      below = go (typed_at d R.u (A.is R.u R.r R.mid R.hi R.two.right)) R.two;
     };
     usage = record {
       usage = R.t;

@@ -1,159 +1,147 @@
 // Rule 4: placing in a typed leaf, whose type must support b, or b's type the leaf.
 #![tactic(auto)]
 
-ghost use Rattle.std.specs.Prelude.{◌≡◌, ◌*◌, ◌+◌, ◌≤◌, length};
+ghost use Rattle.std.specs.Prelude.{◌≡◌, ◌*◌, ◌+◌, ◌≤◌, length, Ok};
 ghost use Rattle.records.specs.Records.{command_in};
 ghost use Rattle.report.specs.Emitted.{Emitted};
 ghost use Rattle.place_states.specs.Calls.{Ready};
 ghost use Rattle.place_states.specs.Starts.{Plain, Begins};
 ghost use Rattle.support_memory.specs.Nodes.{Unchanged};
-ghost use Rattle.place_leaf.specs.Leaves.{Typed, TypeAt, Stricter, report_of, is_no, decided, Keeps};
+ghost use Rattle.place_leaf.specs.Leaves.{Typed, TypeAt, Stricter, report_of, conflict_of, is_no, decided, Keeps};
 
+use layout::Table;
 use place_states::State;
-use records::{argument, command, put_type};
-use support::{Asked, ask};
+use qptr::Kind;
+use records::{argument, kind, put_type};
+use report::Report;
+use support::{NotAsked, ask};
 
 // What is reported of a type that is kept.
-#[derive(Clone, Copy)]
+#[derive(Clone, Copy, PartialEq, Eq)]
 pub enum Conflict {
-    Clear,
     Types,
     Handle,
     Failed,
 }
 
+impl From<NotAsked> for Conflict {
+    ghost from_gives = { λ why c. c ≡ conflict_of why };
+
+    fn from(why: NotAsked) -> Conflict {
+        match why {
+            NotAsked::Handle => Conflict::Handle,
+            NotAsked::Failed => Conflict::Failed,
+        }
+    }
+}
+
 #[derive(Clone, Copy)]
 pub struct Kept {
     pub ty: u32,
-    pub conflict: Conflict,
+    pub conflict: Option<Conflict>,
 }
 
-// Is d 0, and record q a leaf?
-fn has_type(s: &[u8], q: usize, d: u32) -> bool
+// The type of record q, if it is a leaf and d is 0.
+fn type_at(s: &[u8], q: usize, d: u32) -> Option<u32>
     requires { q * 32 + 32 ≤ length s.now }
     ensures { TypeAt s.now q d result }
 {
     if d != 0 {
-        return false;
+        return None;
     }
-    let c = command(s, q);
-    if c == 1 {
-        return true;
+    match kind(s, q) {
+        Kind::StrictlyTyped | Kind::DirectAccess => Some(argument(s, q)),
+        Kind::Unused | Kind::OffsetBase | Kind::DynOffsetBase => None,
     }
-    if c == 2 {
-        return true;
-    }
-    false
 }
 
-fn is_no(asked: Asked) -> bool
+fn is_no(asked: Result<bool, NotAsked>) -> bool
     ensures { result ≡ is_no asked }
 {
-    match asked {
-        Asked::No => true,
-        Asked::Yes => false,
-        Asked::Handle => false,
-        Asked::Failed => false,
-    }
+    matches!(asked, Ok(false))
 }
 
 // A type that does not support what it was asked about leaves it to the other.
-fn decide(asked: Asked, ty: u32, otherwise: Kept) -> Kept
+fn decide(asked: Result<bool, NotAsked>, ty: u32, otherwise: Kept) -> Kept
     ensures { result ≡ decided asked ty otherwise }
 {
     match asked {
-        Asked::No => otherwise,
-        Asked::Yes => Kept {
+        Ok(false) => otherwise,
+        Ok(true) => Kept { ty, conflict: None },
+        Err(why) => Kept {
             ty,
-            conflict: Conflict::Clear,
-        },
-        Asked::Handle => Kept {
-            ty,
-            conflict: Conflict::Handle,
-        },
-        Asked::Failed => Kept {
-            ty,
-            conflict: Conflict::Failed,
+            conflict: Some(Conflict::from(why)),
         },
     }
 }
 
 // The type kept of a, with b at d. b's type is asked only if a's does not support b.
-fn kept_type(table: &[u8], places: &[u32], s: &mut [u8], a: usize, d: u32, b: usize) -> Kept
-    requires ready { Ready table.now places.now s.old a b }
+fn kept_type(table: &Table<'_>, s: &mut [u8], a: usize, d: u32, b: usize) -> Kept
+    requires ready { Ready table.now s.old a b }
     requires typed { Typed (command_in s.old a) }
-    ensures keeps { Keeps table.now places.now s.old a d b result }
+    ensures keeps { Keeps table.now s.old a d b result }
     ensures unchanged { Unchanged s.old s.new }
 {
     let ty = argument(s, a);
     let other = Kept {
         ty,
-        conflict: Conflict::Types,
+        conflict: Some(Conflict::Types),
     };
-    if has_type(s, b, d) {
-        let c = argument(s, b);
-        if c == ty {
-            return Kept {
-                ty,
-                conflict: Conflict::Clear,
-            };
-        }
-        let asked = ask(table, places, ty, d, s, b);
-        if is_no(asked) {
-            return decide(ask(table, places, c, 0, s, a), c, other);
-        }
-        return decide(asked, ty, other);
+    let Some(c) = type_at(s, b, d) else {
+        return decide(ask(table, ty, d, s, b), ty, other);
+    };
+    if c == ty {
+        return Kept { ty, conflict: None };
     }
-    decide(ask(table, places, ty, d, s, b), ty, other)
+    let asked = ask(table, ty, d, s, b);
+    if is_no(asked) {
+        return decide(ask(table, c, 0, s, a), c, other);
+    }
+    decide(asked, ty, other)
 }
 
-// The command of a leaf that is strict if either is.
-fn stricter(a: u32, b: u32) -> u32
+// A leaf's kind is the strict one if either's is.
+fn stricter(a: Kind, b: Kind) -> Kind
     ensures { Stricter a b result }
 {
-    if a == 1 {
-        return 1;
+    if a == Kind::StrictlyTyped || b == Kind::StrictlyTyped {
+        return Kind::StrictlyTyped;
     }
-    if b == 1 {
-        return 1;
-    }
-    2
+    Kind::DirectAccess
 }
 
-fn report_conflict(rep: &mut [u8], at: usize, kept: Kept) -> usize
-    ensures { Emitted rep.old at (report_of kept.conflict kept.ty) rep.new result }
+fn report_conflict(report: &mut Report<'_>, kept: Kept)
+    ensures { Emitted report.old (report_of kept.conflict kept.ty) report.new }
 {
-    let conflict = kept.conflict;
-    match conflict {
-        Conflict::Clear => at,
-        Conflict::Types => report::byte(rep, at, 0x32),
-        Conflict::Handle => report::byte(rep, at, 0x33),
-        Conflict::Failed => {
-            let next = report::byte(rep, at, 0x34);
-            report::word(rep, next, kept.ty)
+    match kept.conflict {
+        // a position that nobody looks at is known to be one only if that is said
+        None => prove!(report.at <= usize::MAX),
+        Some(Conflict::Types) => report.byte(0x32),
+        Some(Conflict::Handle) => report.byte(0x33),
+        Some(Conflict::Failed) => {
+            report.byte(0x34);
+            report.word(kept.ty);
         }
     }
 }
 
 // b is placed at d in a, a leaf.
 pub fn begin_leaf(
-    table: &[u8],
-    places: &[u32],
+    table: &Table<'_>,
     s: &mut [u8],
     a: usize,
     d: u32,
     b: usize,
-    rep: &mut [u8],
-    at: usize,
+    report: &mut Report<'_>,
 ) -> State
-    requires ready { Ready table.now places.now s.old a b }
+    requires ready { Ready table.now s.old a b }
     requires plain { Plain (command_in s.old b) d }
     requires typed { Typed (command_in s.old a) }
-    ensures { Begins table.now places.now s.old a d b rep.old at s.new rep.new result }
+    ensures { Begins table.now s.old a d b report.old s.new report.new (Ok result) }
 {
-    let kept = kept_type(table, places, s, a, d, b);
-    let c = stricter(command(s, a), command(s, b));
+    let kept = kept_type(table, s, a, d, b);
+    let c = stricter(kind(s, a), kind(s, b));
     put_type(s, a, c, kept.ty);
-    let end = report_conflict(rep, at, kept);
-    State::finished(a, 1, end)
+    report_conflict(report, kept);
+    State::finished(a, 1)
 }

@@ -1,39 +1,27 @@
--- What a pair that has been placed or merged leaves.
+-- What the test of sizes answers, and what a pair that has been placed or merged leaves.
 -- Assumes nothing.
-use Rattle.std.specs.Prelude.{◌≡◌, ℕ, ◌+◌, ◌%◌, ◌^◌, ◌≢◌}
-use Rattle.place_states.specs.Ends.{refused_state}
+use Rattle.std.specs.Prelude.{◌≡◌, ℕ, ◌+◌, ◌%◌, ◌^◌, ◌≢◌, Result, Ok, Err}
+use Rattle.report.specs.declared.Report.{Report}
+use Rattle.place_states.specs.Refusals.{number_of}
+use Rattle.place_states.specs.declared.Merged.{Merged}
+use Rattle.place_states.specs.declared.SizeRefusal.{SizeRefusal}
 use Rattle.place_states.specs.declared.State.{State}
-use Rattle.place_states.specs.declared.Outcome.{Outcome}
+use Rattle.place_states.specs.declared.Todo.TheVariants.{Go}
 
--- the pair's report began at `here`, behind its 31, and ends at `at`: r is where it goes on, which is before the 31 if nothing was reported
-pub record Unmarked (here mark at r : ℕ) : Type 0 where
-  pub empty : at ≡ here → r ≡ mark
-  pub other : (at ≢ here) → r ≡ at
+-- the refusal's number, or 0
+abbrev pub number_in : {A : Type 0} → Result A SizeRefusal → ℕ
+number_in (Ok x) = 0
+number_in (Err e) = number_of e
 
--- what the pair has become is record x
-abbrev pub held_state : State → Outcome → ℕ → ℕ → State
-held_state st r pairings at = record {
-  refusal = 0;
-  todo = 1;
-  rule = st.rule;
-  x = r.node;
-  d = 0;
-  m = 0;
-  offset = st.offset;
-  rest = st.rest;
-  q = st.q;
-  low = st.low;
-  pairings = pairings;
-  base = st.base;
-  mark = at;
-  at = at;
-}
+-- how a report r goes on behind a pair, whose own report began at `here`, behind its 31: before the 31 if nothing was reported
+pub record Unmarked (here mark : ℕ) (r r' : Report) : Type 0 where
+  pub empty : r.at ≡ here → r' ≡ record r { at = mark }
+  pub other : (r.at ≢ here) → r' ≡ r
 
-pub record Stays (st : State) (r : Outcome) (t : State) : Type 0 where
-  pub at : ℕ
-  pub on : Unmarked st.at st.mark r.at at
-  pub state : t ≡ held_state st r ((st.pairings + r.pairings) % 2 ^ 32) at
+-- what the pair has become is m's record
+abbrev pub held_state : State → Merged → ℕ → ℕ → State
+held_state st m pairings mark = record st { todo = Go; x = m.node; pairings = pairings; mark = mark }
 
-pub record Settled (st : State) (r : Outcome) (t : State) : Type 0 where
-  pub refused : (r.refusal ≢ 0) → t ≡ refused_state r.refusal
-  pub stays : r.refusal ≡ 0 → Stays st r t
+pub record Settled (st : State) (here : ℕ) (m : Merged) (rep rep' : Report) (t : State) : Type 0 where
+  pub on : Unmarked here st.mark rep rep'
+  pub state : t ≡ held_state st m ((st.pairings + m.pairings) % 2 ^ 32) rep'.at

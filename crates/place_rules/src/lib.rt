@@ -9,165 +9,123 @@ ghost use Rattle.links.specs.Rows.{nodes_at};
 ghost use Rattle.place_states.specs.Calls.{Ready, Near};
 ghost use Rattle.place_states.specs.States.{Waiting, Moves};
 ghost use Rattle.place_states.specs.Starts.{Plain, Begins, Began};
-ghost use Rattle.place_rules.specs.Settling.{Unmarked, Settled};
+ghost use Rattle.place_rules.specs.Settling.{number_in, Unmarked, Settled};
 
+use layout::Table;
 use place_arrays::{begin_array, next_element};
 use place_entries::{begin_entries, next_entry};
 use place_leaf::begin_leaf;
 use place_maps::{begin_join, next_join};
-use place_states::{Outcome, State};
+use place_states::{Merged, Rule, SizeRefusal, State, Todo};
 use place_unused::begin_unused;
-use qptr::MaxSize;
-use records::{command, max_size};
+use qptr::{Kind, MaxSize};
+use records::{kind, max_size};
+use report::Report;
 
-const MAX32: u64 = 4294967295;
-
-// 0, or 8 or 9: the size of placing b at d in a must be a's.
-fn size_refusal(a: MaxSize, d: u32, b: MaxSize) -> u32
-    ensures { result ≡ size_refusal (size_of a) d (size_of b) }
+// The size of placing b at d in a must be a's.
+fn size_refusal(a: MaxSize, d: u32, b: MaxSize) -> Result<(), SizeRefusal>
+    ensures { number_in result ≡ size_refusal (size_of a) d (size_of b) }
 {
-    match a {
-        MaxSize::Dynamic => 0,
-        MaxSize::Fixed(m) => match b {
-            MaxSize::Dynamic => 8,
-            MaxSize::Fixed(n) => {
-                let e = d as u64 + n as u64;
-                let own = m as u64;
-                if MAX32 < e {
-                    return 9;
-                }
-                if own < e {
-                    return 8;
-                }
-                0
-            }
+    match (a, b) {
+        (MaxSize::Dynamic, _) => Ok(()),
+        (MaxSize::Fixed(_), MaxSize::Dynamic) => Err(SizeRefusal::Outgrown),
+        (MaxSize::Fixed(m), MaxSize::Fixed(n)) => match d.checked_add(n) {
+            None => Err(SizeRefusal::Past32),
+            Some(end) if m < end => Err(SizeRefusal::Outgrown),
+            Some(_) => Ok(()),
         },
     }
 }
 
-// Rules 3 to 6, by a's kind.
+// Rules 3 to 6, by a's kind. The pair is another at each call, so it is passed one by one and in no struct.
 fn begin_into(
-    table: &[u8],
-    places: &[u32],
+    table: &Table<'_>,
     s: &mut [u8],
     a: usize,
     d: u32,
     b: usize,
-    rep: &mut [u8],
-    at: usize,
-) -> State
-    requires ready { Ready table.now places.now s.old a b }
+    report: &mut Report<'_>,
+) -> Result<State, SizeRefusal>
+    requires ready { Ready table.now s.old a b }
     requires plain { Plain (command_in s.old b) d }
-    ensures { Begins table.now places.now s.old a d b rep.old at s.new rep.new result }
+    ensures { Begins table.now s.old a d b report.old s.new report.new result }
 {
-    let receiver = command(s, a);
-    if receiver == 0 {
-        return begin_unused(s, a, b, at);
+    match kind(s, a) {
+        Kind::Unused => Ok(begin_unused(s, a, b)),
+        Kind::OffsetBase => begin_join(s, a, d, b, report),
+        Kind::DynOffsetBase => Ok(begin_array(s, a, d, b, report)),
+        // a leaf, of either kind
+        _ => Ok(begin_leaf(table, s, a, d, b, report)),
     }
-    if receiver == 3 {
-        return begin_join(s, a, d, b, rep, at);
-    }
-    if receiver == 4 {
-        return begin_array(s, a, d, b, rep, at);
-    }
-    begin_leaf(table, places, s, a, d, b, rep, at)
 }
 
 // Rules 1 and 2, by b's kind.
 fn begin_with(
-    table: &[u8],
-    places: &[u32],
+    table: &Table<'_>,
     s: &mut [u8],
     a: usize,
     d: u32,
     b: usize,
-    rep: &mut [u8],
-    at: usize,
-) -> State
-    requires { Ready table.now places.now s.old a b }
-    ensures { Begins table.now places.now s.old a d b rep.old at s.new rep.new result }
+    report: &mut Report<'_>,
+) -> Result<State, SizeRefusal>
+    requires { Ready table.now s.old a b }
+    ensures { Begins table.now s.old a d b report.old s.new report.new result }
 {
-    let placed = command(s, b);
-    if placed == 0 {
-        return State::finished(a, 1, at);
+    match kind(s, b) {
+        Kind::Unused => Ok(State::finished(a, 1)),
+        Kind::OffsetBase if d == 0 => Ok(begin_entries(s, a, b, report)),
+        _ => begin_into(table, s, a, d, b, report),
     }
-    if placed == 3 {
-        if d == 0 {
-            return begin_entries(s, a, b, rep, at);
-        }
-        return begin_into(table, places, s, a, d, b, rep, at);
-    }
-    begin_into(table, places, s, a, d, b, rep, at)
 }
 
 // Sizes, then the rules.
 pub fn begin(
-    table: &[u8],
-    places: &[u32],
+    table: &Table<'_>,
     s: &mut [u8],
     a: usize,
     d: u32,
     b: usize,
-    rep: &mut [u8],
-    at: usize,
-) -> State
-    requires ready { Ready table.now places.now s.old a b }
-    requires near { Near at (nodes_at s.old a + nodes_at s.old b) }
-    ensures { Began table.now places.now s.old a d b rep.old at s.new rep.new result }
+    report: &mut Report<'_>,
+) -> Result<State, SizeRefusal>
+    requires ready { Ready table.now s.old a b }
+    requires near { Near report.old.at (nodes_at s.old a + nodes_at s.old b) }
+    ensures { Began table.now s.old a d b report.old s.new report.new result }
 {
-    let refusal = size_refusal(max_size(s, a), d, max_size(s, b));
-    if refusal != 0 {
-        return State::refused(refusal);
-    }
-    begin_with(table, places, s, a, d, b, rep, at)
+    size_refusal(max_size(s, a), d, max_size(s, b))?;
+    begin_with(table, s, a, d, b, report)
 }
 
-// Where the report goes on behind a pair: its 31 is taken back if nothing was reported.
-fn without_mark(here: usize, mark: usize, at: usize) -> usize
-    ensures { Unmarked here mark at result }
+// Behind a pair, whose report began at `here`: its 31 is taken back if nothing was reported.
+fn drop_mark(report: &mut Report<'_>, here: usize, mark: usize)
+    ensures { Unmarked here mark report.old report.new }
 {
-    if at == here {
-        return mark;
+    if report.at == here {
+        report.at = mark;
     }
-    at
 }
 
-// The pair has become what r says: refused, or what stands in its place.
-pub fn settle(st: State, r: Outcome) -> State
-    ensures { Settled st r result }
+// The pair, whose report began at `here`, has become what r says, which stands in its place.
+pub fn settle(st: State, here: usize, r: Merged, report: &mut Report<'_>) -> State
+    ensures { Settled st here r report.old report.new result }
 {
-    if r.refusal != 0 {
-        return State::refused(r.refusal);
-    }
-    let at = without_mark(st.at, st.mark, r.at);
+    drop_mark(report, here, st.mark);
     State {
-        refusal: 0,
-        todo: 1,
-        rule: st.rule,
+        todo: Todo::Go,
         x: r.node,
-        d: 0,
-        m: 0,
-        offset: st.offset,
-        rest: st.rest,
-        q: st.q,
-        low: st.low,
-        pairings: std::num::wrapping_add_u32(st.pairings, r.pairings),
-        base: st.base,
-        mark: at,
-        at: at,
+        pairings: st.pairings.wrapping_add(r.pairings),
+        mark: report.at,
+        ..st
     }
 }
 
 // From what stands at x: the next pair, or the end. The receiver is record a.
-pub fn step(s: &mut [u8], a: usize, st: State, rep: &mut [u8]) -> State
+pub fn step(s: &mut [u8], a: usize, st: State, report: &mut Report<'_>) -> State
     requires { Waiting s.old a st }
-    ensures { Moves s.old rep.old a st s.new rep.new result }
+    ensures { Moves s.old report.old a st s.new report.new result }
 {
-    if st.rule == 2 {
-        return next_entry(s, a, st, rep);
+    match st.rule {
+        Rule::Entries => next_entry(s, a, st, report),
+        Rule::Element => next_element(s, a, st),
+        Rule::Join => next_join(s, a, st, report),
     }
-    if st.rule == 6 {
-        return next_join(s, a, st, rep);
-    }
-    next_element(s, a, st)
 }

@@ -1,9 +1,7 @@
 -- Both call on fewer nodes, or merging on the same: the measure counts the nodes of both sides twice, and merging once more. The loop keeps its goal ahead.
-use borrow.Author.Rules.{rules}
-use Prim.Native.Nat.{◌≤◌}
-use mathlib.Core.Path.{◌∙◌}
-use native.Mathlib.Omega.{arith}
-use Rattle.analyze.proofs.Loop.{loop_first, loop_last, loop_waits, loop_step, pair_less, pair_ready, pair_near, loop_again, chain_less, alive, is_merging, is_placing}
+use Rattle.std.proofs.Common.{inl, inr, rules, arith}
+use Rattle.std.proofs.lemmas.Result.{err_from_is_err_and}
+use Rattle.analyze.proofs.Loop.{begun_refused, loop_last, loop_refused, loop_waits, pair_asked, loop_again, chain_less, alive, is_merging, is_placing, last_turn}
 use Rattle.analyze.proofs.Merging.{ready_swap, merged_left, merged_right}
 use Rattle.analyze.proofs.+merging.Goals as goal
 
@@ -17,65 +15,56 @@ merge_mem-merge_mem_at-requires-2 t c =
 pub merge_mem-returns : goal.merge_mem-returns
 merge_mem-returns t c = search (merged_right, rules)
 
-pub merge_mem_at-loop-st-init : goal.merge_mem_at-loop-st-init
-merge_mem_at-loop-st-init t c = loop_first c.begin-st.ensures
+pub merge_mem_at-returns-in_err-st : goal.merge_mem_at-returns-in_err-st
+merge_mem_at-returns-in_err-st t c =
+    let p = err_from_is_err_and c.from_residual.result c.from_residual.ensures.1 in rw (p.1, p.2) (begun_refused c.in_err-st.ensures)
+
+pub merge_mem_at-returns-in-Finished : goal.merge_mem_at-returns-in-Finished
+merge_mem_at-returns-in-Finished t c =
+    loop_last c.requires.ready c.requires.near c.in_ok-st.ensures c.turns.invariant c.in-Finished.is
 
 pub merge_mem_at-step-st-requires : goal.merge_mem_at-step-st-requires
 merge_mem_at-step-st-requires t c =
-    loop_waits c.requires.ready c.requires.near c.begin-st.ensures c.loop-st.invariant c.begin-st.auto.s c.if-st-eq1.true
+    loop_waits c.requires.ready c.requires.near c.in_ok-st.ensures c.turns.invariant c.begin.auto.s c.in-Go.is
 
-pub merge_mem_at-loop-st-smaller-then-st-eq1 : goal.merge_mem_at-loop-st-smaller-then-st-eq1
-merge_mem_at-loop-st-smaller-then-st-eq1 t c =
-    omega (arith, c.step-st.ensures.fall, c.step-st.ensures.todo, c.if-st-eq1.true)
+pub merge_mem_at-merge_mem_at-requires : goal.merge_mem_at-merge_mem_at-requires
+merge_mem_at-merge_mem_at-requires t c =
+    let is = last_turn _ c.in_default.not-Finished c.in_default.not-Go c.in_default.not-Merge in
+    let p = pair_asked c.requires.ready c.requires.near c.in_ok-st.ensures c.turns.invariant (inl is) c.begin.auto.s in
+    (omega (arith, c.decreases, p.0), (p.1, p.2))
 
-pub merge_mem_at-loop-st-preserved-then-st-eq1 : goal.merge_mem_at-loop-st-preserved-then-st-eq1
-merge_mem_at-loop-st-preserved-then-st-eq1 t c =
-    loop_step c.loop-st.invariant c.if-st-eq1.true c.step-st.auto.s c.step-st.auto.rep c.step-st.ensures
+pub merge_mem_at-returns-in_err-r-in_default : goal.merge_mem_at-returns-in_err-r-in_default
+merge_mem_at-returns-in_err-r-in_default t c =
+    let is = last_turn _ c.in_default.not-Finished c.in_default.not-Go c.in_default.not-Merge in
+    let p = err_from_is_err_and c.from_residual-in_err-r-in_default.result c.from_residual-in_err-r-in_default.ensures.1 in
+    rw (p.1, p.2) (loop_refused c.requires.ready c.requires.near c.in_ok-st.ensures c.turns.invariant (inl is) (is_placing _ _ is) c.in_err-r-in_default.ensures)
 
-pub merge_mem_at-merge_mem-r-requires : goal.merge_mem_at-merge_mem-r-requires
-merge_mem_at-merge_mem-r-requires t c =
-    let pair : 2 ≤ c.loop-st.st.todo = omega (arith, c.loop-st-test.true, c.if-st-eq1.false) in
-    let L = c.loop-st.invariant in
-    let R = c.requires.ready in
-    let near = c.requires.near in
-    let B = c.begin-st.ensures in
-    (omega (arith, c.decreases, pair_less R near B L pair), (pair_ready R near B L pair c.begin-st.auto.s, pair_near R near B L pair))
+pub merge_mem_at-turns-smaller : goal.merge_mem_at-turns-smaller
+merge_mem_at-turns-smaller t c =
+    let is = last_turn _ c.in_default.not-Finished c.in_default.not-Go c.in_default.not-Merge in
+    chain_less c.turns.invariant (inl is) (omega (arith, c.requires.near)) (is_placing _ _ is) c.in_ok-r-in_default.ensures c.settle-st-in_default.ensures (omega (arith, c.settle-st-in_default.type_inv))
+    c.requires.ready.setting c.requires.ready.known (alive c.requires.ready c.requires.near c.in_ok-st.ensures c.turns.invariant)
 
-pub merge_mem_at-loop-st-smaller-then-st-eq3 : goal.merge_mem_at-loop-st-smaller-then-st-eq3
-merge_mem_at-loop-st-smaller-then-st-eq3 t c =
-    let pair : 2 ≤ c.loop-st.st.todo = omega (arith, c.loop-st-test.true, c.if-st-eq1.false) in
-    chain_less c.loop-st.invariant pair (omega (arith, c.requires.near)) (omega (arith, c.struct_known-1.given)) (is_merging _ _ c.if-st-eq3.true) c.merge_mem-r.ensures c.requires.ready.setting c.requires.ready.known (alive c.requires.ready c.requires.near c.begin-st.ensures c.loop-st.invariant) c.settle-st.ensures
+pub merge_mem_at-turns-preserved : goal.merge_mem_at-turns-preserved
+merge_mem_at-turns-preserved t c =
+    let is = last_turn _ c.in_default.not-Finished c.in_default.not-Go c.in_default.not-Merge in
+    loop_again c.turns.invariant (inl is) (omega (arith, c.requires.near)) (is_placing _ _ is) c.in_ok-r-in_default.ensures c.settle-st-in_default.ensures (omega (arith, c.settle-st-in_default.type_inv)) c.merge_mem_at.auto.s
 
-pub merge_mem_at-loop-st-preserved-then-st-eq3 : goal.merge_mem_at-loop-st-preserved-then-st-eq3
-merge_mem_at-loop-st-preserved-then-st-eq3 t c =
-    let pair : 2 ≤ c.loop-st.st.todo = omega (arith, c.loop-st-test.true, c.if-st-eq1.false) in
-    loop_again c.loop-st.invariant pair (omega (arith, c.requires.near)) (omega (arith, c.struct_known-1.given)) (is_merging _ _ c.if-st-eq3.true) c.merge_mem-r.ensures c.merge_mem-r.auto.s c.merge_mem-r.auto.rep c.settle-st.ensures
+pub merge_mem_at-merge_mem-requires : goal.merge_mem_at-merge_mem-requires
+merge_mem_at-merge_mem-requires t c =
+    let p = pair_asked c.requires.ready c.requires.near c.in_ok-st.ensures c.turns.invariant (inr c.in-Merge.is) c.begin.auto.s in
+    (omega (arith, c.decreases, p.0), (p.1, p.2))
 
-pub merge_mem_at-merge_mem_at-r-requires : goal.merge_mem_at-merge_mem_at-r-requires
-merge_mem_at-merge_mem_at-r-requires t c =
-    let pair : 2 ≤ c.loop-st.st.todo = omega (arith, c.loop-st-test.true, c.if-st-eq1.false) in
-    let L = c.loop-st.invariant in
-    let R = c.requires.ready in
-    let near = c.requires.near in
-    let B = c.begin-st.ensures in
-    (omega (arith, c.decreases, pair_less R near B L pair), (pair_ready R near B L pair c.begin-st.auto.s, pair_near R near B L pair))
+pub merge_mem_at-returns-in_err-r-in-Merge : goal.merge_mem_at-returns-in_err-r-in-Merge
+merge_mem_at-returns-in_err-r-in-Merge t c =
+    let p = err_from_is_err_and c.from_residual-in_err-r-in-Merge.result c.from_residual-in_err-r-in-Merge.ensures.1 in
+    rw (p.1, p.2) (loop_refused c.requires.ready c.requires.near c.in_ok-st.ensures c.turns.invariant (inr c.in-Merge.is) (is_merging _ _ c.in-Merge.is) c.in_err-r-in-Merge.ensures)
 
-pub merge_mem_at-loop-st-smaller : goal.merge_mem_at-loop-st-smaller
-merge_mem_at-loop-st-smaller t c =
-    let pair : 2 ≤ c.loop-st.st.todo = omega (arith, c.loop-st-test.true, c.if-st-eq1.false) in
-    chain_less c.loop-st.invariant pair (omega (arith, c.requires.near)) (omega (arith, c.struct_known-1.given)) (is_placing _ _ c.loop-st.invariant.todo c.if-st-eq3.false) c.merge_mem_at-r.ensures c.requires.ready.setting c.requires.ready.known (alive c.requires.ready c.requires.near c.begin-st.ensures c.loop-st.invariant) c.settle-st-else-st-eq3.ensures
+pub merge_mem_at-turns-smaller-in-Merge : goal.merge_mem_at-turns-smaller-in-Merge
+merge_mem_at-turns-smaller-in-Merge t c =
+    chain_less c.turns.invariant (inr c.in-Merge.is) (omega (arith, c.requires.near)) (is_merging _ _ c.in-Merge.is) c.in_ok-r-in-Merge.ensures c.settle-st.ensures (omega (arith, c.settle-st.type_inv))
+    c.requires.ready.setting c.requires.ready.known (alive c.requires.ready c.requires.near c.in_ok-st.ensures c.turns.invariant)
 
-pub merge_mem_at-loop-st-preserved : goal.merge_mem_at-loop-st-preserved
-merge_mem_at-loop-st-preserved t c =
-    let pair : 2 ≤ c.loop-st.st.todo = omega (arith, c.loop-st-test.true, c.if-st-eq1.false) in
-    loop_again c.loop-st.invariant pair (omega (arith, c.requires.near)) (omega (arith, c.struct_known-1.given)) (is_placing _ _ c.loop-st.invariant.todo c.if-st-eq3.false) c.merge_mem_at-r.ensures c.merge_mem_at-r.auto.s c.merge_mem_at-r.auto.rep c.settle-st-else-st-eq3.ensures
-
-pub merge_mem_at-shape_of-s : goal.merge_mem_at-shape_of-s
-merge_mem_at-shape_of-s t c = c.loop-st.invariant.len ∙ c.begin-st.auto.s
-
-pub merge_mem_at-shape_of-rep : goal.merge_mem_at-shape_of-rep
-merge_mem_at-shape_of-rep t c = c.loop-st.invariant.rep_len ∙ c.begin-st.auto.rep
-
-pub merge_mem_at-returns : goal.merge_mem_at-returns
-merge_mem_at-returns t c =
-    loop_last c.requires.ready c.requires.near c.begin-st.ensures c.loop-st.invariant c.loop-st-test.false
+pub merge_mem_at-turns-preserved-in-Merge : goal.merge_mem_at-turns-preserved-in-Merge
+merge_mem_at-turns-preserved-in-Merge t c =
+    loop_again c.turns.invariant (inr c.in-Merge.is) (omega (arith, c.requires.near)) (is_merging _ _ c.in-Merge.is) c.in_ok-r-in-Merge.ensures c.settle-st.ensures (omega (arith, c.settle-st.type_inv)) c.merge_mem.auto.s

@@ -1,13 +1,12 @@
--- Each test has its own arm.
-use Rattle.std.proofs.Common.{rules}
+-- The sum is tested before the sizes are compared.
 use Rattle.place_rules.proofs.Sizes.{size_past, size_larger, size_fits}
 use Rattle.place_rules.proofs.size_refusal.Goals as goal
 
-pub returns-then-e-gt-MAX32 : goal.returns-then-e-gt-MAX32
-returns-then-e-gt-MAX32 c = search (size_past, rules)
+pub returns-in-None : goal.returns-in-None
+returns-in-None c = size_past _ _ _ _ c.in-Fixed-Fixed.is-0 _ c.in-Fixed-Fixed.is-1 c.in-None.ensures
 
-pub returns-then-own-e : goal.returns-then-own-e
-returns-then-own-e c = search (size_larger, rules)
+pub returns-in-Some : goal.returns-in-Some
+returns-in-Some c = size_larger _ _ _ _ c.in-Fixed-Fixed.is-0 _ c.in-Fixed-Fixed.is-1 _ c.in-Some.ensures c.if-m-end.true
 
-pub returns-else-own-e : goal.returns-else-own-e
-returns-else-own-e c = search (size_fits, rules)
+pub returns-in-Some-2 : goal.returns-in-Some-2
+returns-in-Some-2 c = size_fits _ _ _ _ c.in-Fixed-Fixed.is-0 _ c.in-Fixed-Fixed.is-1 _ c.in-Some.ensures c.if-m-end.false
