@@ -1,8 +1,7 @@
--- Whatever was reached is given back: a refusal as such; else the usage that stands, as it is written, with its report and pairings.
+-- Whatever was reached is given back: the usage that stands, as it is written, with its report and pairings.
 -- Assumes nothing.
 use Prim.Native.Nat.{ℕ, ◌+◌, ◌*◌, ◌-◌, ◌<◌, ◌≤◌}
-use mathlib.Core.Path.{◌≡◌, ap, ◌∙◌}
-use mathlib.Core.Bool.{false}
+use mathlib.Core.Path.{◌≡◌, refl, ap, ◌∙◌}
 use mathlib.Core.List.{List, ◌∷◌, ◌++◌}
 use native.Mathlib.Nat.{zero-add}
 use native.Mathlib.Omega.{arith}
@@ -11,30 +10,33 @@ use lib.Seq.{sets, length-sets, sets-eq}
 use Rattle.definitions.specs.Usage.{Usage}
 use Rattle.definitions.specs.Stream.{write_node}
 use Rattle.definitions.specs.Place.{Result, refused, done, under}
-use Rattle.definitions.specs.Calls.{refusal, written}
-use Rattle.place_states.specs.declared.Outcome.{Outcome}
+use Rattle.std.specs.Prelude.{Result as Returned, Ok, Err}
+use Rattle.definitions.specs.Calls.{written}
+use Rattle.place_states.specs.declared.Merged.{Merged}
+use Rattle.report.specs.declared.Report.{Report}
 use Rattle.links.proofs.Stands.{stands_root}
 use Rattle.transfer_out.specs.Writing.{Readable, Fitting, LengthIs, UsagePut}
-use Rattle.answers.specs.Answers.{answer_of}
-use Rattle.answers.specs.Writing.{Gives, Stood, Reached, Reachable, Finished}
-use Rattle.answers.specs.declared.Answer.{Answer}
+use Rattle.answers.specs.Writing.{Comes, Stood, Reached, Reachable, Finished}
+use Rattle.answers.specs.declared.Refusal.{Refusal}
+use Rattle.answers.specs.declared.Refusal.TheVariants.{ShortOutput, ShortReport}
+use Rattle.answers.specs.declared.Written.{Written}
 use Rattle.answers.proofs.Lengths.{written_bytes}
-use Rattle.answers.proofs.Giving.{gives_kept, gives_10, gives_11, gives_written}
+use Rattle.answers.proofs.Giving.{comes_10, comes_11, comes_written}
 
--- The usage that stands, where nothing was refused
+-- The usage that stands
 
-pub standing : {work : List ℕ} {r : Outcome} {report : List ℕ} → r.refusal ≡ 0 → Reachable work r report → Readable work r.node
-standing {work} {r} {report} answered R = go R.result R.reached
+pub standing : {work : List ℕ} {m : Merged} {report : Report} → Reachable work m report → Readable work m.node
+standing {work} {m} {report} R = go R.result R.reached
   where
-    go : (x : Result Usage) → Reached x work r report → Readable work r.node
-    go (refused k) reached = absurd (omega (arith, answered, reached.0, reached.1))
+    go : (x : Result Usage) → Reached x work (Ok m) report → Readable work m.node
+    go (refused k) reached = absurd reached
     go (done u w p) S = record {
       usage = u;
       rank = S.rank;
       lo = S.lo;
       hi = S.hi;
       stands = S.stands;
-      inside = (stands_root u work r.node S.rank S.lo S.hi S.stands).inside;
+      inside = (stands_root u work m.node S.rank S.lo S.hi S.stands).inside;
       small = S.small;
     }
 
@@ -60,45 +62,39 @@ first_put bs output room = sets-eq bs output 0 (omega arith) ∙ ap (λ k. bs ++
 
 -- What is given back
 
-length_of : {work : List ℕ} {r : Outcome} {l : ℕ} → LengthIs work r.node l → {u : Usage} {w : List ℕ} {p : ℕ} {report : List ℕ} (top : ℕ) → Stood u w p work r report → 1 + l ≡ length (top ∷ write_node u)
+length_of : {work : List ℕ} {m : Merged} {l : ℕ} → LengthIs work m.node l → {u : Usage} {w : List ℕ} {p : ℕ} {report : Report} (top : ℕ) → Stood u w p work m report → 1 + l ≡ length (top ∷ write_node u)
 length_of long {u} top S = omega (arith, long.of u S.rank S.lo S.hi S.stands)
 
-module _ {top : ℕ} {r : Outcome} {work output report : List ℕ} {a : Answer} where
-  pub finished_refused : {report' : List ℕ} → (r.refusal ≡ 0 → ⊥) → (answer_of a ≡ refusal r.refusal) × (report' ≡ replicate (length report) 0)
-      → Finished top r work output report a output report'
-  finished_refused {report'} some zeroed = record { of = go }
+module _ {top : ℕ} {m : Merged} {work output : List ℕ} {report : Report} where
+  finished_by : (r : Returned Written Refusal) {output' : List ℕ} {report' : Report} → report'.buffer.ghost_name ≡ report.buffer.ghost_name
+      → ((u : Usage) (w : List ℕ) (p : ℕ) → Stood u w p work m report
+      → Comes (written output (length report.buffer.now) (done (top ∷ write_node u) w p)) r output' report'.buffer.now)
+      → Finished top m work output report r output' report'
+  finished_by r {output'} {report'} same of = record { of = go; same_buffer = same }
     where
-      go : (x : Result Usage) → Reached x work r report → Gives (written output (length report) (under (λ u. top ∷ write_node u) x)) a output report'
-      go (refused k) reached = gives_kept output (length report) zeroed reached.0
-      go (done u w p) S = absurd (some S.answered)
+      go : (x : Result Usage) → Reached x work (Ok m) report
+          → Comes (written output (length report.buffer.now) (under (λ u. top ∷ write_node u) x)) r output' report'.buffer.now
+      go (refused k) reached = absurd reached
+      go (done u w p) S = of u w p S
 
-  module _ (answered : r.refusal ≡ 0) where
-    finished_by : {output' report' : List ℕ}
-        → ((u : Usage) (w : List ℕ) (p : ℕ) → Stood u w p work r report → Gives (written output (length report) (done (top ∷ write_node u) w p)) a output' report')
-        → Finished top r work output report a output' report'
-    finished_by {output'} {report'} of = record { of = go }
-      where
-        go : (x : Result Usage) → Reached x work r report → Gives (written output (length report) (under (λ u. top ∷ write_node u) x)) a output' report'
-        go (refused k) reached = absurd (omega (arith, answered, reached.0, reached.1))
-        go (done u w p) S = of u w p S
+  module _ {l : ℕ} (long : LengthIs work m.node l) where
+    pub finished_10 : length output < 1 + l → Finished top m work output report (Err ShortOutput) output report
+    finished_10 short = finished_by (Err ShortOutput) refl λ u w p S.
+        comes_10 output (length report.buffer.now) (top ∷ write_node u) w p (omega (arith, length_of long top S))
 
-    module _ {l : ℕ} (long : LengthIs work r.node l) where
-      pub finished_10 : {report' : List ℕ} → length output < 1 + l → (answer_of a ≡ refusal 10) × (report' ≡ replicate (length report) 0)
-          → Finished top r work output report a output report'
-      finished_10 short zeroed = finished_by λ u w p S. gives_10 output (length report) (top ∷ write_node u) w p zeroed (omega (arith, length_of long top S))
+    module _ (room : 1 + l ≤ length output) where
+      pub finished_11 : length report.buffer.now < report.at → Finished top m work output report (Err ShortReport) output report
+      finished_11 short = finished_by (Err ShortReport) refl λ u w p S.
+          comes_11 output (length report.buffer.now) (top ∷ write_node u) w p (omega (arith, length_of long top S)) (omega (arith, S.length_is))
 
-      module _ (room : 1 + l ≤ length output) where
-        pub finished_11 : {report' : List ℕ} → length report < r.at → (answer_of a ≡ refusal 11) × (report' ≡ replicate (length report) 0)
-            → Finished top r work output report a output report'
-        finished_11 short zeroed = finished_by λ u w p S. gives_11 output (length report) (top ∷ write_node u) w p zeroed (omega (arith, length_of long top S)) (omega (arith, S.length_is))
-
-        pub finished_written : {output' report' : List ℕ} {e : ℕ} → r.at ≤ length report
-            → answer_of a ≡ record { number = 0; yes = false; usage = 1 + l; report = r.at; pairings = r.pairings }
-            → UsagePut work r.node (set output 0 top) 1 output' e
-            → report' ≡ take r.at report ++ replicate (length report - r.at) 0
-            → Finished top r work output report a output' report'
-        finished_written enough told put zeroed =
-            finished_by λ u w p S.
-            gives_written output (length report) (top ∷ write_node u) w p (omega (arith, length_of long top S)) (omega (arith, S.length_is)) (rw (length_of long top S, S.length_is, S.pairs) at told)
-            ((put.of u S.rank S.lo S.hi S.stands).stored ∙ first_put (top ∷ write_node u) output (omega (arith, length_of long top S)))
-            (zeroed ∙ rw (S.length_is, S.bytes (omega (arith, S.length_is))))
+      pub finished_written : {output' : List ℕ} {report' : Report} {e : ℕ} → report.at ≤ length report.buffer.now
+          → UsagePut work m.node (set output 0 top) 1 output' e
+          → report'.buffer.now ≡ take report.at report.buffer.now ++ replicate (length report.buffer.now - report.at) 0
+          → report'.buffer.ghost_name ≡ report.buffer.ghost_name
+          → Finished top m work output report (Ok (record { usage = 1 + l; report = report.at; pairings = m.pairings })) output' report'
+      finished_written enough put zeroed same =
+          finished_by _ same λ u w p S.
+          comes_written output (length report.buffer.now) (top ∷ write_node u) w p (omega (arith, length_of long top S)) (omega (arith, S.length_is))
+          (record { usage = 1 + l; report = report.at; pairings = m.pairings }) (length_of long top S) S.length_is S.pairs
+          ((put.of u S.rank S.lo S.hi S.stands).stored ∙ first_put (top ∷ write_node u) output (omega (arith, length_of long top S)))
+          (zeroed ∙ rw (S.length_is, S.bytes (omega (arith, S.length_is))))

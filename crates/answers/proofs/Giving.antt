@@ -1,36 +1,75 @@
--- What is given back of a result: 10 where the output is too short, else 11 where the report is, else the bytes and the report.
+-- What is given back of a result: 10 where the output is too short, else 11 where the report is, else the bytes and the report. A
+-- refused call keeps the output, and once its report is cleared, that is what the definitions leave.
 -- Assumes nothing.
 use Prim.Native.Nat.{ℕ, ◌-◌, ◌<◌, ◌≤◌}
-use mathlib.Core.Path.{◌≡◌, refl, ◌∙◌, ap}
-use mathlib.Core.Bool.{false}
+use mathlib.Core.Path.{◌≡◌, refl, sym, ◌∙◌, ap}
 use mathlib.Core.List.{List, ◌++◌}
+use native.Mathlib.Omega.{arith}
 use borrow.Author.Tests.{lt-ltb, le-ltb}
 use lib.ListN.{length, drop, replicate}
+use Rattle.std.specs.Prelude.{Result as Returned, Ok, Err, OnOk, OnErr}
 use Rattle.definitions.specs.If.{when◌then◌else◌}
-use Rattle.definitions.specs.Place.{done}
-use Rattle.definitions.specs.Calls.{refusal, kept, written}
-use Rattle.answers.specs.Answers.{answer_of}
-use Rattle.answers.specs.Writing.{Gives}
-use Rattle.answers.specs.declared.Answer.{Answer}
+use Rattle.definitions.specs.Place.{Result, refused, done}
+use Rattle.definitions.specs.Calls.{Answer as Told, Written as Left, refusal, kept, written}
+use Rattle.definitions.proofs.Choice.{decide}
+use Rattle.answers.specs.Answers.{number_of, told_of}
+use Rattle.answers.specs.Writing.{Gives, Comes}
+use Rattle.answers.specs.declared.Refusal.{Refusal}
+use Rattle.answers.specs.declared.Refusal.TheVariants.{ShortWork, BadTable, BadFirst, BadSecond, UnknownType, NotConcrete, ManyNodes, Outgrown, Past32, ShortOutput, ShortReport}
+use Rattle.answers.specs.declared.Written.{Written}
+
+-- no refusal has the number of what is answered
+pub some_number : (e : Refusal) → 1 ≤ number_of e
+some_number ShortWork = omega arith
+some_number BadTable = omega arith
+some_number BadFirst = omega arith
+some_number BadSecond = omega arith
+some_number UnknownType = omega arith
+some_number NotConcrete = omega arith
+some_number ManyNodes = omega arith
+some_number Outgrown = omega arith
+some_number Past32 = omega arith
+some_number ShortOutput = omega arith
+some_number ShortReport = omega arith
 
 module _ (output : List ℕ) (n : ℕ) where
-  -- a refusal's numbers, and a report buffer of zeros
-  pub gives_kept : {a : Answer} {report : List ℕ} {k j : ℕ} → (answer_of a ≡ refusal k) × (report ≡ replicate n 0) → k ≡ j → Gives (kept j output n) a output report
-  gives_kept refused e = record { numbers = refused.0 ∙ ap refusal e; usage = refl; reported = refused.1 }
+  -- a refusal's numbers, and the output as it was
+  pub comes_kept : {e : Refusal} {k : ℕ} {report : List ℕ} → number_of e ≡ k → Comes (kept k output n) (Err e) output report
+  comes_kept is = record { numbers = ap refusal is; usage = refl; reported = tt }
 
-  module _ (bs w : List ℕ) (p : ℕ) {a : Answer} where
-    pub gives_10 : {report : List ℕ} → (answer_of a ≡ refusal 10) × (report ≡ replicate n 0) → length output < length bs → Gives (written output n (done bs w p)) a output report
+  module _ (bs w : List ℕ) (p : ℕ) where
+    pub comes_10 : {report : List ℕ} → length output < length bs → Comes (written output n (done bs w p)) (Err ShortOutput) output report
     unfolding when◌then◌else◌
-    gives_10 refused short = rw (lt-ltb (length output) (length bs) short) (gives_kept refused refl)
+    comes_10 short = rw (lt-ltb (length output) (length bs) short) (comes_kept refl)
 
-    pub gives_11 : {report : List ℕ} → (answer_of a ≡ refusal 11) × (report ≡ replicate n 0) → length bs ≤ length output → n < length w → Gives (written output n (done bs w p)) a output report
+    pub comes_11 : {report : List ℕ} → length bs ≤ length output → n < length w → Comes (written output n (done bs w p)) (Err ShortReport) output report
     unfolding when◌then◌else◌
-    gives_11 refused room short = rw (le-ltb (length output) (length bs) room, lt-ltb n (length w) short) (gives_kept refused refl)
+    comes_11 room short = rw (le-ltb (length output) (length bs) room, lt-ltb n (length w) short) (comes_kept refl)
 
-    pub gives_written : {output' report : List ℕ} → length bs ≤ length output → length w ≤ n
-        → answer_of a ≡ record { number = 0; yes = false; usage = length bs; report = length w; pairings = p }
+    pub comes_written : {output' report : List ℕ} → length bs ≤ length output → length w ≤ n
+        → (v : Written) → v.usage ≡ length bs → v.report ≡ length w → v.pairings ≡ p
         → output' ≡ bs ++ drop (length bs) output → report ≡ w ++ replicate (n - length w) 0
-        → Gives (written output n (done bs w p)) a output' report
+        → Comes (written output n (done bs w p)) (Ok v) output' report
     unfolding when◌then◌else◌
-    gives_written room room' told put reported =
-        rw (le-ltb (length output) (length bs) room, le-ltb n (length w) room') (record { numbers = told; usage = put; reported = reported })
+    comes_written room room' v usage report pairings put reported =
+        rw (le-ltb (length output) (length bs) room, le-ltb n (length w) room')
+        (record { numbers = rw (usage, report, pairings); usage = put; reported = reported })
+
+  -- where the definitions refuse, they leave zeros
+  zeros_left : (x : Result (List ℕ)) (e : Refusal) → refusal (number_of e) ≡ (written output n x).answer → (written output n x).report ≡ replicate n 0
+  zeros_left (refused k) e = λ _. refl
+  zeros_left (done bs w p) e = decide Zeros _ (λ _ _. refl) λ _. decide Zeros _ (λ _ _. refl) λ _ is.
+      absurd (omega (arith, some_number e, ap (λ (a : Told). a.number) is))
+    where
+      Zeros : Left → Type 0
+      Zeros l = refusal (number_of e) ≡ l.answer → l.report ≡ replicate n 0
+
+  pub gives_cleared : (x : Result (List ℕ)) (r : Returned Written Refusal) {r' : Returned Written Refusal} {output' report report' : List ℕ}
+      → Comes (written output n x) r output' report → length report ≡ n → r' ≡ r
+      → OnOk r (report' ≡ report) → OnErr r (report' ≡ replicate (length report) 0) → Gives (written output n x) r' output' report'
+  gives_cleared x (Ok v) comes long same kept zeroed = record { numbers = ap told_of same ∙ comes.numbers; usage = comes.usage; reported = kept ∙ comes.reported }
+  gives_cleared x (Err e) comes long same kept zeroed = record {
+    numbers = ap told_of same ∙ comes.numbers;
+    usage = comes.usage;
+    reported = zeroed ∙ ap (λ k. replicate k 0) long ∙ sym (zeros_left x e comes.numbers);
+  }

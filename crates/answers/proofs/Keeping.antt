@@ -1,35 +1,17 @@
--- The report of two tops of which the first stays: the buffer is zeroed, and conflict 37 then comes to its start, or nothing does.
+-- A report that comes to the start of a buffer, before zeros.
 -- Assumes nothing.
-use Prim.Native.Nat.{ℕ, zero, suc, ◌-◌, ◌≤◌}
-use mathlib.Core.Path.{◌≡◌, refl, ap}
-use mathlib.Core.List.{List, ◌∷◌, ◌++◌}
-use native.Mathlib.Nat.{sub-zero}
+use Prim.Native.Nat.{ℕ, ◌-◌, ◌≤◌}
+use mathlib.Core.Path.{◌≡◌, refl, ◌∙◌}
+use mathlib.Core.List.{List, ◌++◌}
 use native.Mathlib.Omega.{arith}
-use lib.ListN.{length, set, replicate, length-append, length-replicate}
-use Rattle.answers.specs.Writing.{unlike_report}
+use lib.ListN.{length, take, drop, replicate, length-append, length-drop}
+use lib.Seq.{take_at}
 
-pub unlike_length : (report : ℕ) → report ≤ 1 → length (unlike_report report) ≡ report
-unlike_length zero few = refl
-unlike_length (suc zero) few = refl
-unlike_length (suc (suc k)) few = absurd (omega arith)
-
--- the report and the zeros behind it, in a buffer of n bytes
-abbrev pub unlike_in : ℕ → ℕ → List ℕ
-unlike_in n report = unlike_report report ++ replicate (n - length (unlike_report report)) 0
-
-pub length_unlike : (n report : ℕ) → report ≤ 1 → report ≤ n → length (unlike_in n report) ≡ n
-length_unlike n report few room =
-    let w = unlike_report report in
-    let zeros : List ℕ = replicate (n - length w) 0 in
-    omega (arith, length-append w zeros, length-replicate {A = ℕ} (n - length w) 0, unlike_length report few)
-
-module _ (n : ℕ) {zeroed : List ℕ} (is : zeroed ≡ replicate (n - 0) 0) where
-  pub none_unlike : {report : ℕ} → report ≤ 1 → (report ≡ 1 → ⊥) → zeroed ≡ unlike_in n report
-  none_unlike {report} few other = let e : report ≡ 0 = omega arith in rw e is
-
-  pub one_unlike : {report : ℕ} → report ≡ 1 → 1 ≤ n → set zeroed 0 0x37 ≡ unlike_in n report
-  one_unlike one some = rw (one, is, sub-zero n) (put n some)
-    where
-      put : (m : ℕ) → 1 ≤ m → set (replicate m 0) 0 0x37 ≡ unlike_in m 1
-      put zero none = absurd (omega arith)
-      put (suc m) _ = let e : m ≡ suc m - 1 = omega arith in ap (λ k. 0x37 ∷ replicate k 0) e
+module _ (w report : List ℕ) where
+  pub reported : {copied zeroed : List ℕ} → copied ≡ w → length w ≤ length report
+      → zeroed ≡ take (length w) (copied ++ drop (length w) report) ++ replicate (length (copied ++ drop (length w) report) - length w) 0
+      → zeroed ≡ w ++ replicate (length report - length w) 0
+  reported is room e =
+      let rest = drop (length w) report in
+      let long : length (w ++ rest) ≡ length report = omega (arith, length-append w rest, length-drop (length w) report) in
+      e ∙ rw (is, take_at w rest (length w) refl, long)

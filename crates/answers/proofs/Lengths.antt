@@ -8,7 +8,7 @@ use Rattle.definitions.specs.Usage.{Usage, unused, leaf, map, array, Entries, no
 use Rattle.definitions.specs.Command.{head_of}
 use Rattle.definitions.specs.Stream.{bytes, write_head, write_node, write_entries}
 use Rattle.definitions.proofs.Numbers.{bytes_length}
-use Rattle.transfer_out.proofs.Widths.{head_length, own_small}
+use Rattle.numbers.proofs.Widths.{head_length, own_small}
 
 own_bytes : (u : Usage) → length (write_head (head_of u)) ≤ 10
 own_bytes u = omega (arith, head_length (head_of u), own_small u)

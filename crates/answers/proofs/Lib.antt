@@ -1,6 +1,5 @@
 pub mod Lengths
 pub mod Giving
 pub mod Finishing
-pub mod Copying
 pub mod Keeping
 pub mod Reaching

@@ -2,30 +2,37 @@
 -- wraps.
 -- Assumes nothing.
 use Prim.Native.Nat.{ℕ, ◌*◌, ◌≤◌}
-use mathlib.Core.Path.{◌≡◌, refl}
+use mathlib.Core.Path.{◌≡◌, refl, ◌∙◌}
 use mathlib.Core.List.{List}
 use native.Mathlib.Omega.{arith}
 use native.Mathlib.Nat.{mul-le-mul}
+use Rattle.std.specs.Prelude.{Result as Returned, Ok, Err}
 use Rattle.definitions.specs.Limits.{node_limit}
 use Rattle.definitions.specs.Usage.{Usage, nodes}
-use Rattle.definitions.specs.Place.{Result, refused, done}
+use Rattle.definitions.specs.Place.{Result, refused, done, under}
+use Rattle.definitions.specs.Calls.{written}
 use Rattle.definitions.proofs.FewPairings.{Few}
+use Rattle.report.specs.declared.Report.{Report}
 use Rattle.report.proofs.Emitting.{emitted_all}
 use Rattle.place_states.specs.Calls.{Ground, Done, Answered}
-use Rattle.place_states.specs.declared.Outcome.{Outcome}
-use Rattle.answers.specs.Writing.{Reached, Stood}
+use Rattle.place_states.specs.declared.SizeRefusal.{SizeRefusal}
+use Rattle.place_states.specs.declared.Merged.{Merged}
+use Rattle.place_states.specs.Refusals.{number_of as size_number}
+use Rattle.answers.specs.Answers.{number_of}
+use Rattle.answers.specs.Writing.{Comes, Reached, Stood}
+use Rattle.answers.specs.declared.Refusal.{Refusal}
+use Rattle.answers.proofs.Giving.{comes_kept}
 
 -- what is answered is made of at most m nodes
 abbrev pub FewIn : ℕ → Result Usage → Type 0
 FewIn m x = (u : Usage) (w : List ℕ) (p : ℕ) → x ≡ done u w p → Few m (nodes u) w p
 
-module _ (m : ℕ) (few : m ≤ node_limit) (g : Ground) (start : g.base ≡ 0) (work : List ℕ) (r : Outcome) (rep : List ℕ) where
-  stood : {u : Usage} {w : List ℕ} {p : ℕ} → Few m (nodes u) w p → Answered u w p g work r.refusal r.node r.pairings rep r.at → Stood u w p work r rep
-  stood {u} {w} {p} small A =
+module _ (m : ℕ) (few : m ≤ node_limit) (g : Ground) (start : g.report.at ≡ 0) (work : List ℕ) (rep : Report) where
+  stood : (r : Merged) {u : Usage} {w : List ℕ} {p : ℕ} → Few m (nodes u) w p → Answered u w p g work r rep → Stood u w p work r rep
+  stood r {u} {w} {p} small A =
       let square : m * m ≤ 512 * 512 = mul-le-mul few few in
-      let all = emitted_all (rw start at A.report) (omega (arith, small.short_report)) in
+      let all = emitted_all start A.report (omega (arith, small.short_report)) in
       record {
-        answered = A.answered;
         rank = A.rank;
         lo = g.lo;
         hi = g.hi;
@@ -36,6 +43,14 @@ module _ (m : ℕ) (few : m ≤ node_limit) (g : Ground) (start : g.base ≡ 0) 
         bytes = λ room. all.1 (omega (arith, A.report.size));
       }
 
-  pub reached : (x : Result Usage) → FewIn m x → Done x g work r.refusal r.node r.pairings rep r.at → Reached x work r rep
-  reached (refused k) small D = D
-  reached (done u w p) small D = stood (small u w p refl) D
+  pub reached : (r : Returned Merged SizeRefusal) (x : Result Usage) → FewIn m x → Done x g work r rep → Reached x work r rep
+  reached (Ok r) (refused k) small D = D
+  reached (Ok r) (done u w p) small D = stood r (small u w p refl) D
+  reached (Err e) (refused k) small D = D
+  reached (Err e) (done u w p) small D = D
+
+-- a refusal by size is told as such, whatever would be written
+pub refused_as : (output : List ℕ) (n : ℕ) (make : Usage → List ℕ) (work : List ℕ) (rep : Report) (e : SizeRefusal) {e' : Refusal} (x : Result Usage)
+    → number_of e' ≡ size_number e → Reached x work (Err e) rep → {report : List ℕ} → Comes (written output n (under make x)) (Err e') output report
+refused_as output n make work rep e (refused k) same is = comes_kept output n (same ∙ is)
+refused_as output n make work rep e (done u w p) same is = absurd is

@@ -1,47 +1,60 @@
 -- What place, merge and fold come to before their answer is written, and what they then give back.
 -- Assumes nothing.
-use Rattle.std.specs.Prelude.{ℕ, zero, suc, ◌<◌, ◌≤◌, ◌≡◌, List, [], ◌∷◌, length, take}
+use Rattle.std.specs.Prelude.{ℕ, ◌<◌, ◌≤◌, ◌≡◌, Bool, true, false, List, [], ◌∷◌, Result as Returned, Ok, Err, OnOk, length, take}
 use Rattle.definitions.specs.Usage.{Usage, nodes}
 use Rattle.definitions.specs.Stream.{write_node}
 use Rattle.definitions.specs.Place.{Result, refused, done, under}
-use Rattle.definitions.specs.Calls.{Written, written}
+use Rattle.definitions.specs.Calls.{Written as Left, written}
 use Rattle.links.specs.Standing.{Stands}
-use Rattle.place_states.specs.declared.Outcome.{Outcome}
-use Rattle.answers.specs.Answers.{answer_of}
-use Rattle.answers.specs.declared.Answer.{Answer}
+use Rattle.report.specs.declared.Report.{Report}
+use Rattle.place_states.specs.Refusals.{number_of}
+use Rattle.place_states.specs.declared.SizeRefusal.{SizeRefusal}
+use Rattle.place_states.specs.declared.Merged.{Merged}
+use Rattle.answers.specs.Answers.{told_of}
+use Rattle.answers.specs.declared.Refusal.{Refusal}
+use Rattle.answers.specs.declared.Written.{Written}
 
 -- the numbers and both buffers are those of w
-pub record Gives (w : Written) (a : Answer) (output report : List ℕ) : Type 0 where
-  pub numbers : answer_of a ≡ w.answer
+pub record Gives (w : Left) (r : Returned Written Refusal) (output report : List ℕ) : Type 0 where
+  pub numbers : told_of r ≡ w.answer
   pub usage : output ≡ w.output
   pub reported : report ≡ w.report
 
+-- the same, but that the report of a refused call is still to be cleared
+pub record Comes (w : Left) (r : Returned Written Refusal) (output report : List ℕ) : Type 0 where
+  pub numbers : told_of r ≡ w.answer
+  pub usage : output ≡ w.output
+  pub reported : OnOk r (report ≡ w.report)
+
 -- u is the result; its report w is at the buffer's start, if it fits, and there were p pairings
-pub record Stood (u : Usage) (w : List ℕ) (p : ℕ) (work : List ℕ) (r : Outcome) (report : List ℕ) : Type 0 where
-  pub answered : r.refusal ≡ 0
+pub record Stood (u : Usage) (w : List ℕ) (p : ℕ) (work : List ℕ) (m : Merged) (report : Report) : Type 0 where
   pub rank : ℕ → ℕ
   pub lo : ℕ
   pub hi : ℕ
-  pub stands : Stands u work r.node rank lo hi
+  pub stands : Stands u work m.node rank lo hi
   pub small : nodes u < 65536
-  pub pairs : r.pairings ≡ p
-  pub length_is : r.at ≡ length w
-  pub bytes : length w ≤ length report → take (length w) report ≡ w
+  pub pairs : m.pairings ≡ p
+  pub length_is : report.at ≡ length w
+  pub bytes : length w ≤ length report.buffer.now → take (length w) report.buffer.now ≡ w
 
 -- the definition gives x, and this is what there is of it
-abbrev pub Reached : Result Usage → List ℕ → Outcome → List ℕ → Type 0
-Reached (refused k) work r report = (r.refusal ≡ k) × (1 ≤ k)
-Reached (done u w p) work r report = Stood u w p work r report
+abbrev pub Reached : Result Usage → List ℕ → Returned Merged SizeRefusal → Report → Type 0
+Reached (refused k) work (Err e) report = number_of e ≡ k
+Reached (refused k) work (Ok m) report = ⊥
+Reached (done u w p) work (Err e) report = ⊥
+Reached (done u w p) work (Ok m) report = Stood u w p work m report
 
-pub record Reachable (work : List ℕ) (r : Outcome) (report : List ℕ) : Type 0 where
+pub record Reachable (work : List ℕ) (m : Merged) (report : Report) : Type 0 where
   pub result : Result Usage
-  pub reached : Reached result work r report
+  pub reached : Reached result work (Ok m) report
 
--- whatever was reached is given back, the usage behind the byte `top`
-pub record Finished (top : ℕ) (r : Outcome) (work output report : List ℕ) (a : Answer) (output' report' : List ℕ) : Type 0 where
-  pub of : (x : Result Usage) → Reached x work r report → Gives (written output (length report) (under (λ u. top ∷ write_node u) x)) a output' report'
+-- whatever was reached is given back, the usage behind the byte `top`, in the same buffers
+pub record Finished (top : ℕ) (m : Merged) (work output : List ℕ) (report : Report) (r : Returned Written Refusal) (output' : List ℕ) (report' : Report) : Type 0 where
+  pub of : (x : Result Usage) → Reached x work (Ok m) report
+      → Comes (written output (length report.buffer.now) (under (λ u. top ∷ write_node u) x)) r output' report'.buffer.now
+  pub same_buffer : report'.buffer.ghost_name ≡ report.buffer.ghost_name
 
 -- the report of two tops of which the first stays: none where they are the same, else conflict 37
-abbrev pub unlike_report : ℕ → List ℕ
-unlike_report zero = []
-unlike_report (suc n) = 0x37 ∷ []
+abbrev pub unlike_report : Bool → List ℕ
+unlike_report false = []
+unlike_report true = 0x37 ∷ []

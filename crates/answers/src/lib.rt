@@ -1,33 +1,59 @@
-// What the calls give back: the numbers of their answers; and of place, merge and fold the usage and the report, once it is known
-// that both fit.
+// What the calls give back: a yes or no, or the lengths of what was written, or a refusal; and of place, merge and fold the usage and the
+// report, once it is known that both fit.
 #![tactic(auto)]
 
-ghost use Rattle.std.specs.Prelude.{◌≡◌, false, [], ◌++◌, ◌≤◌, length, drop, replicate};
+ghost use Rattle.std.specs.Prelude.{◌≡◌, [], Result, Ok, OnOk, OnErr, length, replicate};
 ghost use Rattle.definitions.specs.Place.{done};
-ghost use Rattle.definitions.specs.Calls.{refusal, said, written};
-ghost use Rattle.answers.specs.Answers.{answer_of};
-ghost use Rattle.answers.specs.Writing.{Gives, Reachable, Finished, unlike_report};
+ghost use Rattle.definitions.specs.Calls.{refusal, written};
+ghost use Rattle.place_states.specs.Refusals.{number_of as size_number};
+ghost use Rattle.answers.specs.Answers.{number_of, answer_of, said_of, told_of};
+ghost use Rattle.answers.specs.Writing.{Comes, Reachable, Finished, unlike_report};
 
-use place_states::Outcome;
+use place_states::{Merged, SizeRefusal};
+use report::Report;
 
-// The refusals, in their order; 8 and 9 are met while placing.
-pub const SHORT_WORK: u32 = 1;
+// The refusals, in their order. Outgrown and Past32 are met while placing.
+#[derive(Clone, Copy, PartialEq, Eq)]
+pub enum Refusal {
+    ShortWork = 1,
+    BadTable,
+    BadFirst,
+    BadSecond,
+    UnknownType,
+    NotConcrete,
+    ManyNodes,
+    Outgrown,
+    Past32,
+    ShortOutput,
+    ShortReport,
+}
 
-pub const BAD_TABLE: u32 = 2;
+impl Refusal {
+    pub fn number(self) -> u32
+        ensures { result ≡ number_of self }
+    {
+        self as u32
+    }
+}
 
-pub const BAD_FIRST: u32 = 3;
+impl From<SizeRefusal> for Refusal {
+    ghost from_gives = { λ r e. number_of e ≡ size_number r };
 
-pub const BAD_SECOND: u32 = 4;
+    fn from(refusal: SizeRefusal) -> Refusal {
+        match refusal {
+            SizeRefusal::Outgrown => Refusal::Outgrown,
+            SizeRefusal::Past32 => Refusal::Past32,
+        }
+    }
+}
 
-pub const UNKNOWN_TYPE: u32 = 5;
-
-pub const NOT_CONCRETE: u32 = 6;
-
-pub const MANY_NODES: u32 = 7;
-
-pub const SHORT_OUTPUT: u32 = 10;
-
-pub const SHORT_REPORT: u32 = 11;
+// The lengths of the usage and the report that a call has written, and the pairings.
+#[derive(Clone, Copy)]
+pub struct Written {
+    pub usage: usize,
+    pub report: usize,
+    pub pairings: u32,
+}
 
 // What a call gives back as numbers: the lengths written; the pairings; 0 for answered, or the refusal; a yes or no. The widest stand
 // first, so that there is no gap between them.
@@ -40,98 +66,127 @@ pub struct Answer {
     pub yes: bool,
 }
 
-pub fn refusal(number: u32) -> Answer
-    ensures { answer_of result ≡ refusal number }
-{
-    Answer {
-        number,
-        yes: false,
+impl Answer {
+    const NONE: Answer = Answer {
         usage: 0,
         report: 0,
         pairings: 0,
-    }
-}
-
-pub fn said(yes: bool) -> Answer
-    ensures { answer_of result ≡ said (done yes [] 0) }
-{
-    Answer {
-        number: 0,
-        yes,
-        usage: 0,
-        report: 0,
-        pairings: 0,
-    }
-}
-
-// A refusal keeps the output; the report buffer is zeros.
-pub fn refuse(number: u32, rep: &mut [u8]) -> Answer
-    ensures { (answer_of result ≡ refusal number) × (rep.new ≡ replicate (length rep.old) 0) }
-{
-    report::zero(rep, 0); // the whole of it
-    refusal(number)
-}
-
-fn answered(usage: usize, report: usize, pairings: u32) -> Answer
-    ensures { answer_of result ≡ record { number = 0; yes = false; usage = usage; report = report; pairings = pairings } }
-{
-    Answer {
         number: 0,
         yes: false,
-        usage,
-        report,
-        pairings,
+    };
+}
+
+impl From<Refusal> for Answer {
+    ghost from_gives = { λ r a. answer_of a ≡ refusal (number_of r) };
+
+    fn from(refusal: Refusal) -> Answer {
+        Answer {
+            number: refusal.number(),
+            ..Answer::NONE
+        }
     }
 }
 
-// What a placing has come to is written: a refusal; or 10 and 11, and then the usage, behind its first byte.
-pub fn finish(top: u8, r: Outcome, work: &[u8], output: &mut [u8], rep: &mut [u8]) -> Answer
-    requires { Reachable work.now r rep.old }
-    ensures { Finished top r work.now output.old rep.old result output.new rep.new }
+impl From<Result<bool, Refusal>> for Answer {
+    ghost from_gives = { λ r a. answer_of a ≡ said_of r };
+
+    fn from(said: Result<bool, Refusal>) -> Answer {
+        match said {
+            Ok(yes) => Answer {
+                yes,
+                ..Answer::NONE
+            },
+            Err(refusal) => Answer::from(refusal),
+        }
+    }
+}
+
+impl From<Result<Written, Refusal>> for Answer {
+    ghost from_gives = { λ r a. answer_of a ≡ told_of r };
+
+    fn from(told: Result<Written, Refusal>) -> Answer {
+        match told {
+            Ok(written) => Answer {
+                usage: written.usage,
+                report: written.report,
+                pairings: written.pairings,
+                ..Answer::NONE
+            },
+            Err(refusal) => Answer::from(refusal),
+        }
+    }
+}
+
+// A call that was refused leaves a report of zeros. Its output is as it was.
+pub fn cleared(r: Result<Written, Refusal>, rep: &mut [u8]) -> Result<Written, Refusal>
+    ensures same { result ≡ r }
+    ensures answered { OnOk r (rep.new ≡ rep.old) }
+    ensures refused { OnErr r (rep.new ≡ replicate (length rep.old) 0) }
 {
-    if r.refusal != 0 {
-        return refuse(r.refusal, rep);
+    if r.is_err() {
+        report::zero(rep, 0); // the whole of it
     }
-    let length = 1 + transfer_out::written_length(work, r.node);
-    if output.len() < length {
-        return refuse(SHORT_OUTPUT, rep);
+    r
+}
+
+// What was placed is written, if it fits: the usage, behind its first byte, and zeros behind the report.
+pub fn finish(
+    top: u8,
+    merged: Merged,
+    work: &[u8],
+    output: &mut [u8],
+    report: &mut Report<'_>,
+) -> Result<Written, Refusal>
+    requires { Reachable work.now merged report.old }
+    ensures { Finished top merged work.now output.old report.old result output.new report.new }
+{
+    let usage = 1 + transfer_out::written_length(work, merged.node);
+    if output.len() < usage {
+        return Err(Refusal::ShortOutput);
     }
-    if rep.len() < r.at {
-        return refuse(SHORT_REPORT, rep);
+    let length = report.at;
+    if report.buffer.len() < length {
+        return Err(Refusal::ShortReport);
     }
     output[0] = top;
-    transfer_out::write(work, r.node, output, 1);
-    report::zero(rep, r.at);
-    answered(length, r.at, r.pairings)
+    transfer_out::write(work, merged.node, output, 1);
+    report::zero(report.buffer, length);
+    Ok(Written {
+        usage,
+        report: length,
+        pairings: merged.pairings,
+    })
 }
 
-// The bytes go to the start of `to`.
-fn copy(from: &[u8], to: &mut [u8])
-    requires { length from.now ≤ length to.old }
-    ensures { to.new ≡ from.now ++ drop (length from.now) to.old }
+// What is reported of two tops of which the first stays: conflict 37, or nothing.
+fn unlike_report(unlike: bool) -> &'static [u8]
+    ensures { result.now ≡ unlike_report unlike }
 {
-    let mut i = 0;
-    while i < from.len() {
-        to[i] = from[i];
-        i += 1;
-    }
+    if unlike { &[0x37] } else { &[] }
 }
 
-// The first of two tops stays: with conflict 37, or with none.
-pub fn keep(first: &[u8], report: usize, output: &mut [u8], rep: &mut [u8]) -> Answer
-    requires { report ≤ 1 }
-    ensures { Gives (written output.old (length rep.old) (done first.now (unlike_report report) 0)) result output.new rep.new }
+// The first of two tops stays.
+pub fn keep(
+    first: &[u8],
+    unlike: bool,
+    output: &mut [u8],
+    rep: &mut [u8],
+) -> Result<Written, Refusal>
+    ensures { Comes (written output.old (length rep.old) (done first.now (unlike_report unlike) 0)) result output.new rep.new }
 {
     if output.len() < first.len() {
-        return refuse(SHORT_OUTPUT, rep);
+        return Err(Refusal::ShortOutput);
     }
-    if rep.len() < report {
-        return refuse(SHORT_REPORT, rep);
+    let report = unlike_report(unlike);
+    if rep.len() < report.len() {
+        return Err(Refusal::ShortReport);
     }
-    copy(first, output);
-    report::zero(rep, 0);
-    if report == 1 {
-        rep[0] = 0x37;
-    }
-    answered(first.len(), report, 0)
+    output[..first.len()].copy_from_slice(first);
+    rep[..report.len()].copy_from_slice(report);
+    report::zero(rep, report.len());
+    Ok(Written {
+        usage: first.len(),
+        report: report.len(),
+        pairings: 0,
+    })
 }

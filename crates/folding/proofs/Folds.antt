@@ -2,6 +2,7 @@
 -- them does. Few nodes are left at each turn, so that no position comes to where positions wrap.
 -- Assumes nothing.
 use Rattle.std.proofs.Common.{◌≡◌, ℕ, suc, ◌+◌, ◌-◌, ◌*◌, ◌%◌, ◌^◌, ◌<◌, ◌≤◌, List, [], ◌∷◌, ◌++◌, length, drop, sym, refl, ap, ◌∙◌, append-nil, add-one, arith, length-append}
+use Rattle.std.specs.Prelude.{Result as Returned, Ok, Err}
 use Rattle.definitions.specs.Limits.{node_limit, work_limit}
 use Rattle.definitions.specs.Usage.{Usage, nodes, nodes_of, Nodes, all_nodes}
 use Rattle.definitions.specs.Command.{argument_width}
@@ -20,13 +21,16 @@ use Rattle.links.proofs.Frames.{kept_none}
 use Rattle.numbers.proofs.Widths.{argument_width_lem}
 use Rattle.layout.specs.Places.{Known}
 use Rattle.report.specs.Emitted.{Emitted}
+use Rattle.report.specs.declared.Report.{Report}
 use Rattle.report.proofs.Emitting.{emitted_nothing, emitted_after}
 use Rattle.place_states.specs.Calls.{ground}
 use Rattle.transfer_in.specs.Loading.{itself}
 use Rattle.answers.specs.Writing.{Reached}
-use Rattle.folding.specs.Folding.{NodeReady, NodeLoaded, NextReady, of_next, NextDone, NextFolded, Foldable}
+use Rattle.folding.specs.Folding.{NodeReady, NodeLoaded, NextReady, of_next, NextDone, ReadOn, NextFolded, Foldable}
 use Rattle.folding.specs.declared.Folded.{Folded}
-use Rattle.folding.specs.declared.Loaded.{Loaded}
+use Rattle.layout.specs.declared.Table.{Table}
+use Rattle.stream.specs.declared.Span.{Span}
+use Rattle.place_states.specs.declared.SizeRefusal.{SizeRefusal}
 use Rattle.folding.proofs.Lists.{Listed, Counted, nodes_left, list_behind}
 use Rattle.answers.proofs.Reaching.{reached}
 
@@ -36,7 +40,7 @@ node_short i [] = omega arith
 node_short i (x ∷ w) = omega arith
 
 -- u stands for the nodes so far, with the report w and p pairings; us are left
-pub record Folding (st : Setting) (ns : Nodes) (list : List ℕ) (count : ℕ) (rep₀ work rep : List ℕ) (f : Folded) (i : ℕ) : Type 0 where
+pub record Folding (st : Setting) (ns : Nodes) (list : List ℕ) (count : ℕ) (rep₀ : Report) (work : List ℕ) (rep : Report) (f : Folded) (i : ℕ) : Type 0 where
   pub u : Usage
   pub w : List ℕ
   pub p : ℕ
@@ -50,21 +54,21 @@ pub record Folding (st : Setting) (ns : Nodes) (list : List ℕ) (count : ℕ) (
   pub stands : Stands u work f.result.node rank 1 f.free
   pub fresh : (i : ℕ) → f.free ≤ i → rank i ≡ i
   pub room : f.free + nodes_of us ≤ suc node_limit
-  pub answered : f.result.refusal ≡ 0
   pub fits : Storable (length st.table) u
   pub others_fit : AllStorable (length st.table) us
   pub few : nodes u + nodes_of us ≤ node_limit
   pub turns : i + nodes_of us ≤ node_limit
   pub short : length w ≤ i * 2 ^ 22
   pub pairs : f.result.pairings ≡ p % 2 ^ 32
-  pub report : Emitted rep₀ 0 w rep f.result.at
+  pub start : rep₀.at ≡ 0
+  pub report : Emitted rep₀ w rep
 
 -- The first node
 
-abbrev start : Loaded → Folded
-start l = record { end = l.end; free = 1 + l.nodes; result = record { refusal = 0; node = 1; pairings = 0; at = 0 } }
+abbrev start : Span → Folded
+start l = record { end = l.end; free = 1 + l.nodes; result = record { node = 1; pairings = 0 } }
 
-module _ {table places list : List ℕ} {st : Setting} {ns : Nodes} (foldable : Foldable table places list st ns) {w : ℕ} (width : w ≡ argument_width 0x0B) where
+module _ {table : Table} {list : List ℕ} {st : Setting} {ns : Nodes} (foldable : Foldable table list st ns) {w : ℕ} (width : w ≡ argument_width 0x0B) where
   pub count_inside : Width w × (1 + w ≤ length list)
   count_inside = rw width (argument_width_lem 0x0B, (list_behind list foldable.is).0)
 
@@ -84,13 +88,13 @@ module _ {table places list : List ℕ} {st : Setting} {ns : Nodes} (foldable : 
         few = omega (arith, foldable.few);
       }
 
-  pub first_few : {work work₁ : List ℕ} {l : Loaded} → NodeLoaded list (1 + w) work 1 work₁ l → l.nodes ≤ node_limit
+  pub first_few : {work work₁ : List ℕ} {l : Span} → NodeLoaded list (1 + w) work 1 work₁ l → l.nodes ≤ node_limit
   first_few loaded = let all = all_counted in omega (arith, foldable.few, loaded.counted ns.first all.behind all.first_reads)
 
-  pub fold_start : {work work₁ : List ℕ} {l : Loaded} (rep : List ℕ) {count : ℕ} → count ≡ number_at w list 1
+  pub fold_start : {work work₁ : List ℕ} {l : Span} (rep : Report) → rep.at ≡ 0 → {count : ℕ} → count ≡ number_at w list 1
       → NodeLoaded list (1 + w) work 1 work₁ l → Folding st ns list count rep work₁ rep (start l) 1
   unfolding fold itself
-  fold_start {work₁} {l} rep e loaded =
+  fold_start {work₁} {l} rep at_0 e loaded =
       let all = all_counted in
       let place : drop l.end list ≡ all.behind = loaded.behind ns.first all.behind all.first_reads in
       record {
@@ -107,25 +111,25 @@ module _ {table places list : List ℕ} {st : Setting} {ns : Nodes} (foldable : 
         stands = rw (loaded.counted ns.first all.behind all.first_reads) at (loaded.stands ns.first all.behind all.first_reads);
         fresh = λ i le. refl;
         room = omega (arith, foldable.few, loaded.counted ns.first all.behind all.first_reads);
-        answered = refl;
         fits = foldable.fits.0;
         others_fit = foldable.fits.1;
         few = foldable.few;
         turns = omega (arith, foldable.few, some_node ns.first);
         short = omega arith;
         pairs = omega arith;
-        report = emitted_nothing rep 0 (omega arith);
+        start = at_0;
+        report = emitted_nothing rep (omega arith);
       }
 
 -- The next ones
 
-module _ {st : Setting} {ns : Nodes} {list : List ℕ} {count : ℕ} {rep₀ work rep : List ℕ} {f : Folded} {i : ℕ} (folding : Folding st ns list count rep₀ work rep f i) where
+module _ {st : Setting} {ns : Nodes} {list : List ℕ} {count : ℕ} {rep₀ : Report} {work : List ℕ} {rep : Report} {f : Folded} {i : ℕ} (folding : Folding st ns list count rep₀ work rep f i) where
   next_node : i < count → Listed ◌∷◌ (folding.left - 1) (drop f.end list) folding.us []
   next_node more =
       let one : folding.left ≡ suc (folding.left - 1) = omega (arith, folding.to_come) in
       nodes_left (folding.left - 1) (drop f.end list) (rw one at folding.reads)
 
-  pub turn_ready : {table places : List ℕ} → Known table places st → i < count → length work ≡ work_limit → NextReady table places list f work
+  pub turn_ready : {table : Table} → Known table st → i < count → length work ≡ work_limit → NextReady table list f work rep
   turn_ready known more area =
       let node = next_node more in
       let few : nodes folding.u + nodes_of (node.first ∷ node.others) ≤ node_limit = rw node.is at folding.few in
@@ -149,15 +153,15 @@ module _ {st : Setting} {ns : Nodes} {list : List ℕ} {count : ℕ} {rep₀ wor
         within = folding.within;
         room = omega (arith, rw node.is at folding.room);
         area = area;
-        near = omega (arith, folding.report.place, folding.short, folding.turns);
+        near = omega (arith, folding.start, folding.report.place, folding.short, folding.turns);
       }
 
-  module _ {table places : List ℕ} (known : Known table places st) (more : i < count) {work' rep' : List ℕ} {r : Folded} (next : NextFolded table places list i f work rep work' rep' r) where
+  module _ {table : Table} (known : Known table st) (more : i < count) {work' : List ℕ} {rep' : Report} {r : Returned Folded SizeRefusal} (next : NextFolded table list i f work rep work' rep' r) where
     node_fit : AllStorable (length st.table) ((next_node more).first ∷ (next_node more).others)
     node_fit = rw (next_node more).is at folding.others_fit
 
     -- what merging the next node gives is left
-    left : NextDone (of_next i f.result.pairings (merge_mem st folding.u (next_node more).first)) work' rep f.result.at rep' r
+    left : NextDone (of_next i f.result.pairings (merge_mem st folding.u (next_node more).first)) work' rep rep' r
     left = next.merged st folding.u (next_node more).first (next_node more).behind
         (record {
           known = known;
@@ -178,29 +182,30 @@ module _ {st : Setting} {ns : Nodes} {list : List ℕ} {count : ℕ} {rep₀ wor
         ∙ ap (λ us. after folding.w folding.p (fold_from st i folding.u us)) (next_node more).is
         ∙ ap (λ y. after folding.w folding.p (and_then (of_node i) y (λ v. fold_from st (suc i) v (next_node more).others))) e
 
-    pub turn_refused : (r.result.refusal ≡ 0 → ⊥) → Reached (fold st ns) work' r.result rep'
-    turn_refused not0 = go (merge_mem st folding.u (next_node more).first) refl left
+    pub turn_refused : {e : SizeRefusal} → r ≡ Err e → Reached (fold st ns) work' (Err e) rep'
+    turn_refused {e} is = go (merge_mem st folding.u (next_node more).first) refl (rw is at left)
       where
         go : (x : Result Usage) → merge_mem st folding.u (next_node more).first ≡ x
-            → NextDone (of_next i f.result.pairings x) work' rep f.result.at rep' r
-            → Reached (fold st ns) work' r.result rep'
+            → NextDone (of_next i f.result.pairings x) work' rep rep' (Err e)
+            → Reached (fold st ns) work' (Err e) rep'
         go (refused k) e D = rw (onward e) D
-        go (done v w q) e D = absurd (not0 D.answered)
+        go (done v w q) e D = absurd D
 
-    pub turn_on : r.result.refusal ≡ 0 → Folding st ns list count rep₀ work' rep' r (i + 1)
-    turn_on is0 = go (merge_mem st folding.u (next_node more).first) refl left
+    pub turn_on : {to : Folded} → r ≡ Ok to → Folding st ns list count rep₀ work' rep' to (i + 1)
+    turn_on {to} is = go (merge_mem st folding.u (next_node more).first) refl (rw is at left)
       where
         go : (x : Result Usage) → merge_mem st folding.u (next_node more).first ≡ x
-            → NextDone (of_next i f.result.pairings x) work' rep f.result.at rep' r
-            → Folding st ns list count rep₀ work' rep' r (i + 1)
-        go (refused k) e D = absurd (omega (arith, D.0, D.1))
+            → NextDone (of_next i f.result.pairings x) work' rep rep' (Ok to)
+            → Folding st ns list count rep₀ work' rep' to (i + 1)
+        go (refused k) e D = absurd D
         go (done v w q) e D =
             let node = next_node more in
+            let reads : ReadOn list f to = rw is at next.reads in
             let was : nodes folding.u + nodes_of (node.first ∷ node.others) ≤ node_limit = rw node.is at folding.few in
             let turns : i + nodes_of (node.first ∷ node.others) ≤ node_limit = rw node.is at folding.turns in
             let few = merge_mem_few st {m = nodes folding.u + nodes node.first} folding.u node.first e (omega arith) in
             let short = (merge_mem_few st {m = node_limit} folding.u node.first e (omega arith)).short_report in
-            let place : drop r.end list ≡ node.behind = next.behind node.first node.behind node.first_reads in
+            let place : drop to.end list ≡ node.behind = reads.behind node.first node.behind node.first_reads in
             record {
               u = v;
               w = folding.w ++ of_node i w;
@@ -210,28 +215,27 @@ module _ {st : Setting} {ns : Nodes} {list : List ℕ} {count : ℕ} {rep₀ wor
               comes = rw add-one (onward e ∙ after_both folding.w (of_node i w) folding.p q (fold_from st (suc i) v node.others));
               to_come = omega (arith, folding.to_come);
               reads = rw place node.others_read;
-              within = next.within;
+              within = reads.within;
               rank = D.rank;
               stands = D.stands;
               fresh = D.fresh;
-              room = omega (arith, rw node.is at folding.room, next.free node.first node.behind node.first_reads);
-              answered = is0;
+              room = omega (arith, rw node.is at folding.room, reads.free node.first node.behind node.first_reads);
               fits = merge_mem_storable st (length st.table) folding.u node.first folding.fits node_fit.0 e;
               others_fit = node_fit.1;
               few = omega (arith, few.few_nodes);
               turns = omega (arith, some_node node.first);
               short = omega (arith, short, folding.short, node_short i w, length-append folding.w (of_node i w));
               pairs = omega (arith, D.pairs, folding.pairs);
+              start = folding.start;
               report = emitted_after folding.report D.report;
             }
 
   -- The end
 
-  pub fold_end : all_nodes ns ≤ node_limit → count ≤ i → Reached (fold st ns) work f.result rep
+  pub fold_end : all_nodes ns ≤ node_limit → count ≤ i → Reached (fold st ns) work (Ok f.result) rep
   fold_end few all =
-      reached node_limit (omega arith) (ground work folding.rank 1 f.free rep₀ 0) refl work f.result rep (fold st ns) (λ u w p e. fold_few st ns e few)
+      reached node_limit (omega arith) (ground work folding.rank 1 f.free rep₀) folding.start work rep (Ok f.result) (fold st ns) (λ u w p e. fold_few st ns e few)
       (rw is_done (record {
-        answered = folding.answered;
         rank = folding.rank;
         kept = kept_none work folding.rank 1 f.free;
         stands = folding.stands;

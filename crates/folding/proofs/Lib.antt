@@ -1,4 +1,3 @@
-pub mod NodeLoads
 pub mod Lists
 pub mod Nexts
 pub mod Folds

@@ -3,6 +3,7 @@
 -- Assumes nothing.
 use Rattle.std.proofs.Common.{◌≡◌, ℕ, ◌+◌, ◌%◌, ◌^◌, ◌<◌, ◌≤◌, List, [], ◌∷◌, ◌++◌, length, refl, ◌∙◌, subst, arith}
 use native.Mathlib.Decide.{dec_lt}
+use Rattle.std.specs.Prelude.{Ok, Err}
 use Rattle.definitions.specs.Limits.{node_limit}
 use Rattle.definitions.specs.Usage.{Usage, nodes}
 use Rattle.definitions.specs.Stream.{bytes}
@@ -13,30 +14,33 @@ use Rattle.links.specs.Standing.{Stands}
 use Rattle.links.specs.Rows.{nodes_at}
 use Rattle.links.proofs.Stands.{stands_le, stands_still}
 use Rattle.report.specs.Emitted.{Emitted}
+use Rattle.report.specs.declared.Report.{Report}
 use Rattle.report.proofs.Emitting.{emitted_after, emitted_back, emitted_same}
-use Rattle.place_states.specs.Calls.{Two, Ready, Near, ground, Answered, Done, merging, Placed}
-use Rattle.place_states.specs.declared.Outcome.{Outcome}
+use Rattle.place_states.specs.Calls.{Two, Ready, Near, Ground, ground, Answered, Done, merging, Placed}
+use Rattle.place_states.specs.declared.SizeRefusal.{SizeRefusal}
+use Rattle.place_states.specs.declared.Merged.{Merged}
+use Rattle.layout.specs.declared.Table.{Table}
+use Rattle.stream.specs.declared.Span.{Span}
 use Rattle.transfer_in.specs.Loading.{itself}
 use Rattle.folding.specs.Folding.{NodeReady, NodeLoaded, Beside, NextReady, of_next, NextDone, NextFolded}
 use Rattle.folding.specs.declared.Folded.{Folded}
-use Rattle.folding.specs.declared.Loaded.{Loaded}
 use Rattle.inputs.proofs.Lending.{ready_two, near_two}
 
 -- The report of one node
 
-module _ (i : ℕ) {rep : List ℕ} {at : ℕ} {rep₁ : List ℕ} {at₁ : ℕ} {rep₂ : List ℕ} {at₂ : ℕ} (low : at ≤ 2 ^ 61) (head : Emitted rep at (0x38 ∷ bytes 2 i) rep₁ at₁) where
+module _ (i : ℕ) {rep rep₁ rep₂ : Report} (low : rep.at ≤ 2 ^ 61) (head : Emitted rep (0x38 ∷ bytes 2 i) rep₁) where
   -- where the position is what follows the index, nothing was reported
-  pub index_back : at₂ ≡ at₁ → (w : List ℕ) → length w < 2 ^ 61 → Emitted rep₁ at₁ w rep₂ at₂ → Emitted rep at (of_node i w) rep₂ at
+  pub index_back : rep₂.at ≡ rep₁.at → (w : List ℕ) → length w < 2 ^ 61 → Emitted rep₁ w rep₂ → Emitted rep (of_node i w) (record rep₂ { at = rep.at })
   index_back e w short E =
       let none : w ≡ [] = emitted_same E e (omega (arith, head.place)) (omega arith) in
-      let both : Emitted rep at ([] ++ (0x38 ∷ bytes 2 i)) rep₂ at₂ = rw none at (emitted_after head E) in
+      let both : Emitted rep ([] ++ (0x38 ∷ bytes 2 i)) rep₂ = rw none at (emitted_after head E) in
       rw none (emitted_back [] (0x38 ∷ bytes 2 i) both (omega arith) (λ _. omega arith))
 
-  pub index_kept : (at₂ ≡ at₁ → ⊥) → (w : List ℕ) → length w < 2 ^ 61 → Emitted rep₁ at₁ w rep₂ at₂ → Emitted rep at (of_node i w) rep₂ at₂
+  pub index_kept : (rep₂.at ≡ rep₁.at → ⊥) → (w : List ℕ) → length w < 2 ^ 61 → Emitted rep₁ w rep₂ → Emitted rep (of_node i w) rep₂
   index_kept ne [] short E = absurd (ne (omega (arith, E.place, head.place)))
   index_kept ne (x ∷ xs) short E = emitted_after head E
 
-module _ {table places list : List ℕ} {f : Folded} {work : List ℕ} (ready : NextReady table places list f work) where
+module _ {table : Table} {list : List ℕ} {f : Folded} {work : List ℕ} {rep : Report} (ready : NextReady table list f work rep) where
   pub next_node_ready : NodeReady list f.end work f.free
   next_node_ready =
       let B = ready.beside in
@@ -50,8 +54,8 @@ module _ {table places list : List ℕ} {f : Folded} {work : List ℕ} (ready : 
         few = omega (arith, ready.room);
       }
 
-  module _ {work₁ : List ℕ} {next : Loaded} (same : length work₁ ≡ length work) (loaded : NodeLoaded list f.end work f.free work₁ next) where
-    next_two : (st : Setting) (a b : Usage) (rest : List ℕ) (B : Beside table places list f work st a b rest) → Two (length st.table) work₁ f.result.node f.free B.rank 1 f.free (f.free + nodes b) a b
+  module _ {work₁ : List ℕ} {next : Span} (same : length work₁ ≡ length work) (loaded : NodeLoaded list f.end work f.free work₁ next) where
+    next_two : (st : Setting) (a b : Usage) (rest : List ℕ) (B : Beside table list f work st a b rest) → Two (length st.table) work₁ f.result.node f.free B.rank 1 f.free (f.free + nodes b) a b
     unfolding itself
     next_two st a b rest B = record {
       left = stands_still a work work₁ f.result.node B.rank B.rank 1 f.free same (λ i low high. (loaded.kept i (below i high), refl)) B.stands;
@@ -70,35 +74,50 @@ module _ {table places list : List ℕ} {f : Folded} {work : List ℕ} (ready : 
     pub next_free : f.free + next.nodes ≤ 65536
     next_free = omega (arith, ready.room, loaded.counted ready.b ready.rest ready.beside.reads)
 
-    pub next_merges : Ready table places work₁ f.result.node f.free
+    pub next_merges : Ready table work₁ f.result.node f.free
     next_merges = ready_two ready.setting (next_two ready.setting ready.a ready.b ready.rest ready.beside) ready.beside.known (omega (arith, ready.area))
 
     pub next_near : (at : ℕ) → at ≤ 2305843009213693955 → Near at (nodes_at work₁ f.result.node + nodes_at work₁ f.free)
     next_near at low = near_two (next_two ready.setting ready.a ready.b ready.rest ready.beside) at low
 
-    module _ {work₂ : List ℕ} (i : ℕ) {rep rep₁ rep₂ : List ℕ} {at : ℕ} (r : Outcome)
-        (placed : Placed merging table places work₁ f.result.node f.free work₂ r.refusal r.node r.pairings rep₁ at rep₂ r.at) where
-      pub next_folded : {p at' : ℕ} → p ≡ (f.result.pairings + r.pairings) % 2 ^ 32
-          → ((w : List ℕ) → length w < 2 ^ 61 → Emitted rep₁ at w rep₂ r.at → Emitted rep f.result.at (of_node i w) rep₂ at')
-          → NextFolded table places list i f work rep work₂ rep₂ (record { end = next.end; free = f.free + next.nodes; result = record { refusal = r.refusal; node = r.node; pairings = p; at = at' } })
+    module _ {work₂ : List ℕ} (i : ℕ) {rep₁ rep₂ : Report} where
+      -- what the definition gives is left
+
+      pub next_refused : {e : SizeRefusal} → Placed merging table work₁ f.result.node f.free work₂ (Err e) rep₁ rep₂ → NextFolded table list i f work rep work₂ rep₂ (Err e)
       unfolding merging
-      next_folded {p} {at'} sum report = record {
-        merged = λ st a b rest B. go st a b rest B (merge_mem st a b) refl (placed.done st B.known a b B.rank 1 f.free (f.free + nodes b) (next_two st a b rest B));
-        free = λ b rest e. omega (arith, loaded.counted b rest e);
-        behind = loaded.behind;
-        within = loaded.within;
+      next_refused {e} placed = record {
+        merged = λ st a b rest B. go _ (merge_mem st a b) (placed.done st B.known a b B.rank 1 f.free (f.free + nodes b) (next_two st a b rest B));
+        reads = tt;
       }
         where
-          go : (st : Setting) (a b : Usage) (rest : List ℕ) (B : Beside table places list f work st a b rest) (x : Result Usage) → merge_mem st a b ≡ x
-              → Done (merging st a b) (ground work₁ B.rank 1 (f.free + nodes b) rep₁ at) work₂ r.refusal r.node r.pairings rep₂ r.at
-              → NextDone (of_next i f.result.pairings x) work₂ rep f.result.at rep₂ (record { end = next.end; free = f.free + next.nodes; result = record { refusal = r.refusal; node = r.node; pairings = p; at = at' } })
-          go st a b rest B (refused n) e D = rw e at D
+          go : (g : Ground) (x : Result Usage) → Done x g work₂ (Err e) rep₂ → NextDone (of_next i f.result.pairings x) work₂ rep rep₂ (Err e)
+          go g (refused n) D = D
+          go g (done u w q) D = absurd D
+
+      pub next_folded : {r : Merged} → Placed merging table work₁ f.result.node f.free work₂ (Ok r) rep₁ rep₂
+          → {p : ℕ} {rep₃ : Report} → p ≡ (f.result.pairings + r.pairings) % 2 ^ 32
+          → ((w : List ℕ) → length w < 2 ^ 61 → Emitted rep₁ w rep₂ → Emitted rep (of_node i w) rep₃)
+          → NextFolded table list i f work rep work₂ rep₃
+          (Ok (record { end = next.end; free = f.free + next.nodes; result = record { node = r.node; pairings = p } }))
+      unfolding merging
+      next_folded {r} placed {p} {rep₃} sum report = record {
+        merged = λ st a b rest B. go st a b rest B (merge_mem st a b) refl (placed.done st B.known a b B.rank 1 f.free (f.free + nodes b) (next_two st a b rest B));
+        reads = record {
+          free = λ b rest e. omega (arith, loaded.counted b rest e);
+          behind = loaded.behind;
+          within = loaded.within;
+        };
+      }
+        where
+          go : (st : Setting) (a b : Usage) (rest : List ℕ) (B : Beside table list f work st a b rest) (x : Result Usage) → merge_mem st a b ≡ x
+              → Done (merging st a b) (ground work₁ B.rank 1 (f.free + nodes b) rep₁) work₂ (Ok r) rep₂
+              → NextDone (of_next i f.result.pairings x) work₂ rep rep₃ (Ok (record { end = next.end; free = f.free + next.nodes; result = record { node = r.node; pairings = p } }))
+          go st a b rest B (refused n) e D = absurd (rw e at D)
           go st a b rest B (done u w q) e D =
-              let F : Answered u w q (ground work₁ B.rank 1 (f.free + nodes b) rep₁ at) work₂ r.refusal r.node r.pairings rep₂ r.at = rw e at D in
+              let F : Answered u w q (ground work₁ B.rank 1 (f.free + nodes b) rep₁) work₂ r rep₂ = rw e at D in
               let few = merge_mem_few st {m = node_limit} a b e B.few in
               let n : nodes b ≡ next.nodes = loaded.counted b rest B.reads in
               record {
-                answered = F.answered;
                 rank = F.rank;
                 stands = subst (λ (m : ℕ). Stands u work₂ r.node F.rank 1 (f.free + m)) n F.stands;
                 fresh = λ j le. (F.kept.outs j (λ low high. omega (arith, B.fresh j (omega arith)))).1 ∙ B.fresh j (omega arith);

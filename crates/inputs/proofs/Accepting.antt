@@ -2,25 +2,30 @@
 -- has its measures, the nodes and a bound on the types, which are all that was told of it.
 -- Assumes nothing.
 use Prim.Native.Nat.{ℕ, max, ◌+◌, ◌≤◌}
-use mathlib.Core.Path.{◌≡◌, refl, ap, fun_ext, ◌∙◌}
+use mathlib.Core.Path.{◌≡◌, refl, sym, ap, fun_ext, ◌∙◌}
 use mathlib.Core.Bool.{Bool, true, false, ◌&&◌}
 use mathlib.Core.List.{List}
-use mathlib.Core.Option.{Option, none as nothing, some}
+use mathlib.Core.Option.{Option as Maybe, none as nothing, some}
 use native.Mathlib.Omega.{arith}
 use borrow.Author.Tests.{ltb-true, ltb-false, le-leb, lt-leb}
 use lib.Dec.{ltb, leb}
 use lib.ListN.{length}
+use Rattle.std.specs.Prelude.{Option, Some, Err}
+use Rattle.std.proofs.lemmas.Option.{same_Some}
 use Rattle.definitions.specs.If.{when◌then◌else◌}
 use Rattle.definitions.specs.Limits.{node_limit, work_limit}
 use Rattle.definitions.specs.Table.{Table, Setting, table_of}
 use Rattle.definitions.specs.Place.{Result, refused}
 use Rattle.definitions.specs.Calls.{with_table, given, checked}
 use Rattle.stream.specs.Found.{told}
-use Rattle.stream.specs.declared.Found.TheVariants.{Stream}
+use Rattle.stream.specs.declared.Found.{Found}
+use Rattle.answers.specs.Answers.{number_of}
+use Rattle.answers.specs.declared.Refusal.{Refusal}
+use Rattle.answers.proofs.Giving.{some_number}
 use Rattle.inputs.specs.Inputs.{streams_refusal, table_refusal, Good, Met}
-use Rattle.inputs.specs.declared.Inputs.{Inputs}
+use Rattle.inputs.specs.declared.Nodes.{Nodes}
 use Rattle.inputs.proofs.Types.{both_within}
-use Rattle.inputs.proofs.Refusals.{short_work, bad_table, table_read, unknown_type, many_nodes, few_nodes}
+use Rattle.inputs.proofs.Refusals.{short_work, bad_table, table_read, good_table, unknown_type, many_nodes, few_nodes}
 
 -- 5 and 7 as the numbers say
 
@@ -35,18 +40,20 @@ numbers bound types n r false e true f not0 = many_nodes (leb bound types) n r (
 numbers bound types n r false e false f not0 = absurd (not0 refl)
 
 -- what was told of each stream, where it was something
-told_some : {A : Type 0} {n k : A → ℕ} {p t : ℕ} (x : Option A) → told n k x ≡ Stream p t → (a : A) × (x ≡ some a) × (p ≡ n a) × (t ≡ k a)
+told_some : {A : Type 0} {n k : A → ℕ} {f : Found} (x : Maybe A) → told n k x ≡ Some f → (a : A) × (x ≡ some a) × (f.nodes ≡ n a) × (f.types ≡ k a)
 told_some nothing e = let z : ◌≡◌ {A = ℕ} 0 1 = cc in absurd (omega arith)
-told_some (some a) e = (a, refl, cc, cc)
+told_some (some a) e =
+    let is = same_Some _ _ e in
+    (a, refl, sym (ap (λ (f : Found). f.nodes) is), sym (ap (λ (f : Found). f.types) is))
 
 module _ {A B C : Type 0} (n k : A → ℕ) (m l : B → ℕ) (next : Setting → A → B → Result C) where
-  abbrev pub body : Option A → Option B → Setting → Result C
+  abbrev pub body : Maybe A → Maybe B → Setting → Result C
   body x y st =
       given 3 x λ a.
       given 4 y λ b.
       checked (leb (k a) (length st.table) && leb (l b) (length st.table)) (n a + m b) (next st a b)
 
-  of_streams : (t : Table) (x : Option A) (y : Option B) → (streams_refusal (length t) (told n k x) (told m l y) ≡ 0 → ⊥)
+  of_streams : (t : Table) (x : Maybe A) (y : Maybe B) → (streams_refusal (length t) (told n k x) (told m l y) ≡ 0 → ⊥)
       → body x y (record { table = t }) ≡ refused (streams_refusal (length t) (told n k x) (told m l y))
   of_streams t nothing y not0 = refl
   of_streams t (some a) nothing not0 = refl
@@ -54,14 +61,14 @@ module _ {A B C : Type 0} (n k : A → ℕ) (m l : B → ℕ) (next : Setting �
       rw (both_within (k a) (l b) (length t))
       (numbers (max (k a) (l b)) (length t) (n a + m b) (next (record { table = t }) a b) (ltb (length t) (max (k a) (l b))) refl (ltb node_limit (n a + m b)) refl not0)
 
-  accepted : (t : Table) {x : Option A} {y : Option B} {a : A} {b : B} → x ≡ some a → y ≡ some b → k a ≤ length t → l b ≤ length t
+  accepted : (t : Table) {x : Maybe A} {y : Maybe B} {a : A} {b : B} → x ≡ some a → y ≡ some b → k a ≤ length t → l b ≤ length t
       → n a + m b ≤ node_limit → body x y (record { table = t }) ≡ next (record { table = t }) a b
   accepted t {x} {y} {a} {b} e f a-known b-known few =
       rw (e, f, both_within (k a) (l b) (length t))
       (few_nodes _ (n a + m b) _ (le-leb (max (k a) (l b)) (length t) (omega arith)) few)
 
-  module _ (table : List ℕ) (work : ℕ) (x : Option A) (y : Option B) where
-    of_table : (t : Option Table) → table_of table ≡ t → work_limit ≤ work → (table_refusal t (told n k x) (told m l y) ≡ 0 → ⊥)
+  module _ (table : List ℕ) (work : ℕ) (x : Maybe A) (y : Maybe B) where
+    of_table : (t : Maybe Table) → table_of table ≡ t → work_limit ≤ work → (table_refusal t (told n k x) (told m l y) ≡ 0 → ⊥)
         → with_table work table (body x y) ≡ refused (table_refusal t (told n k x) (told m l y))
     of_table nothing e enough not0 = bad_table (body x y) work table enough e
     of_table (some t) e enough not0 = table_read (body x y) work table enough e ∙ of_streams t x y not0
@@ -72,10 +79,10 @@ module _ {A B C : Type 0} (n k : A → ℕ) (m l : B → ℕ) (next : Setting �
     of_work true e not0 = short_work (body x y) work table (ltb-true work work_limit e)
     of_work false e not0 = of_table (table_of table) refl (ltb-false work work_limit e) not0
 
-    pub refused_by : {places : List ℕ} {r : Inputs} → Met table work (told n k x) (told m l y) places r → (r.refusal ≡ 0 → ⊥)
-        → with_table work table (body x y) ≡ refused r.refusal
-    refused_by {places} {r} met not0 =
-        rw met.number (of_work (ltb work work_limit) refl (λ e. not0 (met.number ∙ e)))
+    pub refused_by : {places : List ℕ} {e : Refusal} → Met table work (told n k x) (told m l y) places (Err e)
+        → with_table work table (body x y) ≡ refused (number_of e)
+    refused_by {places} {e} met =
+        rw met.number (of_work (ltb work work_limit) refl (λ none. absurd (omega (arith, some_number e, met.number, none))))
 
     -- what was read, and what the call goes on with
     pub record Going (t : Table) (p q : ℕ) : Type 0 where
@@ -89,10 +96,15 @@ module _ {A B C : Type 0} (n k : A → ℕ) (m l : B → ℕ) (next : Setting �
       pub second_known : l second ≤ length t
       pub goes : with_table work table (body x y) ≡ next (record { table = t }) first second
 
-    pub goes_on : {places : List ℕ} {p q : ℕ} (good : Good table work (told n k x) (told m l y) places p q) → Going good.layouts p q
+    pub goes_on : {places : List ℕ} {both : Nodes} (good : Good table work (told n k x) (told m l y) places both)
+        → Going good.begun.records.layouts both.first both.second
     goes_on good =
         let a = told_some x good.first in
         let b = told_some y good.second in
+        let begun = good.begun in
+        let layouts = begun.records.layouts in
+        let left : k a.0 ≤ length layouts = omega (arith, a.3, good.first_known, begun.records.count) in
+        let right : l b.0 ≤ length layouts = omega (arith, b.3, good.second_known, begun.records.count) in
         record {
           first = a.0;
           second = b.0;
@@ -100,39 +112,37 @@ module _ {A B C : Type 0} (n k : A → ℕ) (m l : B → ℕ) (next : Setting �
           second_is = b.1;
           first_nodes = a.2;
           second_nodes = b.2;
-          first_known = omega (arith, a.3, good.first_known);
-          second_known = omega (arith, b.3, good.second_known);
-          goes =
-              table_read (body x y) work table good.enough good.is
-              ∙ accepted good.layouts a.1 b.1
-              (omega (arith, a.3, good.first_known))
-              (omega (arith, b.3, good.second_known))
-              (omega (arith, a.2, b.2, good.few));
+          first_known = left;
+          second_known = right;
+          goes = good_table (body x y) begun ∙ accepted layouts a.1 b.1 left right (omega (arith, a.2, b.2, good.few));
         }
 
 -- one stream, as one of two of which nothing is asked of the other
 
+abbrev pub none_told : Option Found
+none_told = Some (record { nodes = 0; types = 0 })
+
 module _ {A C : Type 0} (n k : A → ℕ) (next : Setting → A → Result C) where
-  abbrev pub one_body : Option A → Setting → Result C
+  abbrev pub one_body : Maybe A → Setting → Result C
   one_body x st = given 3 x λ a. checked (leb (k a) (length st.table)) (n a) (next st a)
 
   abbrev nothing_more : Unit {0} → ℕ
   nothing_more u = 0
 
-  as_two : (x : Option A) (st : Setting) → one_body x st ≡ body n k nothing_more nothing_more (λ st a u. next st a) x (some tt) st
+  as_two : (x : Maybe A) (st : Setting) → one_body x st ≡ body n k nothing_more nothing_more (λ st a u. next st a) x (some tt) st
   as_two nothing st = refl
   as_two (some a) st =
       let bound : max (k a) 0 ≡ k a = omega arith in
       let nodes : n a + 0 ≡ n a = omega arith in
       rw (both_within (k a) 0 (length st.table), bound, nodes)
 
-  module _ (table : List ℕ) (work : ℕ) (x : Option A) where
+  module _ (table : List ℕ) (work : ℕ) (x : Maybe A) where
     call_as_two : with_table work table (one_body x) ≡ with_table work table (body n k nothing_more nothing_more (λ st a u. next st a) x (some tt))
     call_as_two = ap (with_table work table) (fun_ext (as_two x))
 
-    pub one_refused : {places : List ℕ} {r : Inputs} → Met table work (told n k x) (Stream 0 0) places r → (r.refusal ≡ 0 → ⊥)
-        → with_table work table (one_body x) ≡ refused r.refusal
-    one_refused met not0 = call_as_two ∙ refused_by n k nothing_more nothing_more (λ st a u. next st a) table work x (some tt) met not0
+    pub one_refused : {places : List ℕ} {e : Refusal} → Met table work (told n k x) none_told places (Err e)
+        → with_table work table (one_body x) ≡ refused (number_of e)
+    one_refused met = call_as_two ∙ refused_by n k nothing_more nothing_more (λ st a u. next st a) table work x (some tt) met
 
     pub record OneGoing (t : Table) (p : ℕ) : Type 0 where
       pub first : A
@@ -141,7 +151,8 @@ module _ {A C : Type 0} (n k : A → ℕ) (next : Setting → A → Result C) wh
       pub first_known : k first ≤ length t
       pub goes : with_table work table (one_body x) ≡ next (record { table = t }) first
 
-    pub one_goes_on : {places : List ℕ} {p q : ℕ} (good : Good table work (told n k x) (Stream 0 0) places p q) → OneGoing good.layouts p
+    pub one_goes_on : {places : List ℕ} {both : Nodes} (good : Good table work (told n k x) none_told places both)
+        → OneGoing good.begun.records.layouts both.first
     one_goes_on good =
         let two = goes_on n k nothing_more nothing_more (λ st a u. next st a) table work x (some tt) good in
         record {

@@ -3,10 +3,12 @@
 -- Assumes nothing.
 use Prim.Native.Nat.{ℕ, ◌+◌, ◌≤◌}
 use mathlib.Core.Path.{◌≡◌, refl, sym, ◌∙◌}
+use mathlib.Core.Bool.{Bool, true, false, not}
 use mathlib.Core.List.{List, []}
 use mathlib.Core.Option.{some}
 use native.Mathlib.Omega.{arith}
-use borrow.Author.Tests.{ne_eqb, eq-eqb}
+use borrow.Author.Tests.{ne_eqb, eq-eqb, eqb-true, eqb-false}
+use lib.Dec.{eqb}
 use lib.ListN.{length, get_or}
 use Rattle.definitions.specs.If.{when◌then◌else◌}
 use Rattle.definitions.specs.Usage.{Top, opaque, buffer, memory}
@@ -57,28 +59,37 @@ module _ (first second : List ℕ) (bytes : Bytes first) (bytes' : Bytes second)
       go (buffer u) e = absurd (omega (arith, first_byte first bytes tops.first_is, first_byte second bytes' e))
       go (memory u) e = absurd (omega (arith, first_byte first bytes tops.first_is, first_byte second bytes' e))
 
-  pub other_kind : (get_or first 0 0 ≡ get_or second 0 0 → ⊥) → Conflicts first second 1
-  other_kind differ = record { small = omega arith; of = of }
+  pub other_kind : (get_or first 0 0 ≡ get_or second 0 0 → ⊥) → Conflicts first second true
+  other_kind differ = record { of = of }
     where
       of : (st : Setting) (t : ℕ) (b : Top) → top_of first ≡ some (opaque t) → top_of second ≡ some b → merge st (opaque t) b ≡ unlike (opaque t)
       of st t (opaque s) e f = absurd (differ (first_byte first bytes e ∙ sym (first_byte second bytes' f)))
       of st t (buffer u) e f = refl
       of st t (memory u) e f = refl
 
-  pub other_type : {w : ℕ} → w ≡ argument_width 0x08 → (number_at w first 1 ≡ number_at w second 1 → ⊥) → Conflicts first second 1
+  other_type : {w : ℕ} → w ≡ argument_width 0x08 → (number_at w first 1 ≡ number_at w second 1 → ⊥) → Conflicts first second true
   unfolding when◌then◌else◌
-  other_type width differ = record { small = omega arith; of = of }
+  other_type width differ = record { of = of }
     where
       of : (st : Setting) (t : ℕ) (b : Top) → top_of first ≡ some (opaque t) → top_of second ≡ some b → merge st (opaque t) b ≡ unlike (opaque t)
       of st t (opaque s) e f = rw (ne_eqb t s (λ same. differ (opaque_type first bytes width e ∙ same ∙ sym (opaque_type second bytes' width f))))
       of st t (buffer u) e f = refl
       of st t (memory u) e f = refl
 
-  pub same_opaque : {w : ℕ} → w ≡ argument_width 0x08 → get_or first 0 0 ≡ get_or second 0 0 → number_at w first 1 ≡ number_at w second 1 → Conflicts first second 0
+  same_opaque : {w : ℕ} → w ≡ argument_width 0x08 → get_or first 0 0 ≡ get_or second 0 0 → number_at w first 1 ≡ number_at w second 1 → Conflicts first second false
   unfolding when◌then◌else◌
-  same_opaque width same same-type = record { small = omega arith; of = of }
+  same_opaque width same same-type = record { of = of }
     where
       of : (st : Setting) (t : ℕ) (b : Top) → top_of first ≡ some (opaque t) → top_of second ≡ some b → merge st (opaque t) b ≡ done (opaque t) [] 0
       of st t (opaque s) e f = rw (eq-eqb t s (sym (opaque_type first bytes width e) ∙ same-type ∙ opaque_type second bytes' width f))
       of st t (buffer u) e f = absurd (omega (arith, first_byte first bytes e, first_byte second bytes' f))
       of st t (memory u) e f = absurd (omega (arith, first_byte first bytes e, first_byte second bytes' f))
+
+  -- the types decide, where the first bytes are the same
+  pub told_by : {w : ℕ} → w ≡ argument_width 0x08 → get_or first 0 0 ≡ get_or second 0 0
+      → Conflicts first second (not (eqb (number_at w first 1) (number_at w second 1)))
+  told_by {w} width same = go (eqb (number_at w first 1) (number_at w second 1)) refl
+    where
+      go : (b : Bool) → eqb (number_at w first 1) (number_at w second 1) ≡ b → Conflicts first second (not b)
+      go true e = same_opaque width same (eqb-true _ _ e)
+      go false e = other_type width (eqb-false _ _ e)

@@ -10,9 +10,10 @@ use Rattle.links.specs.Rows.{nodes_at}
 use Rattle.links.proofs.Stands.{stands_root}
 use Rattle.links.proofs.Weights.{nodes_at_lem}
 use Rattle.layout.specs.Places.{Known}
+use Rattle.layout.specs.declared.Table.{Table}
 use Rattle.place_states.specs.Calls.{Two, Ready, Near, Linkable}
 
-pub ready_two : {table places s : List ℕ} {a b : ℕ} (st : Setting) {r : ℕ → ℕ} {lo mid hi : ℕ} {t u : Usage} → Two (length st.table) s a b r lo mid hi t u → Known table places st → Linkable s → Ready table places s a b
+pub ready_two : {table : Table} {s : List ℕ} {a b : ℕ} (st : Setting) {r : ℕ → ℕ} {lo mid hi : ℕ} {t u : Usage} → Two (length st.table) s a b r lo mid hi t u → Known table st → Linkable s → Ready table s a b
 ready_two {s} {a} {b} st {r} {lo} {mid} {hi} {t} {u} two known linkable =
     let T = stands_root t s a r lo mid two.left in
     let U = stands_root u s b r mid hi two.right in

@@ -1,5 +1,4 @@
 pub mod Types
-pub mod Tables
 pub mod Refusals
 pub mod Meeting
 pub mod Accepting

@@ -2,72 +2,95 @@
 -- where its test fails, and where none does the streams are good.
 -- Assumes nothing.
 use Prim.Native.Nat.{ℕ, max, ◌+◌, ◌<◌, ◌≤◌}
-use mathlib.Core.Path.{◌≡◌, sym, ◌∙◌}
+use mathlib.Core.Path.{◌≡◌, refl, sym, ◌∙◌}
+use mathlib.Core.Bool.{Bool, true, false}
 use mathlib.Core.List.{List}
-use mathlib.Core.Option.{none as nothing}
+use mathlib.Core.Option.{Option as Maybe, none as nothing, some}
 use native.Mathlib.Omega.{arith}
 use borrow.Author.Tests.{lt-ltb, le-ltb}
+use lib.Dec.{ltb}
+use Rattle.std.specs.Prelude.{Option, Some, None, Ok, Err, ok_or}
+use Rattle.layout.specs.Places.{Accepted}
 use Rattle.definitions.specs.If.{when◌then◌else◌}
 use Rattle.definitions.specs.Limits.{node_limit, work_limit}
-use Rattle.definitions.specs.Table.{table_of}
+use Rattle.definitions.specs.Table.{Table, table_of}
 use Rattle.stream.specs.declared.Found.{Found}
-use Rattle.stream.specs.declared.Found.TheVariants.{Stream, Broken}
-use Rattle.inputs.specs.Inputs.{streams_refusal, inputs_refusal, Met}
-use Rattle.inputs.specs.declared.Inputs.{Inputs}
-use Rattle.inputs.proofs.Tables.{Begun}
+use Rattle.answers.specs.Answers.{number_of}
+use Rattle.answers.specs.declared.Refusal.{Refusal}
+use Rattle.answers.specs.declared.Refusal.TheVariants.{ShortWork, BadTable, BadFirst, BadSecond, UnknownType, ManyNodes}
+use Rattle.answers.proofs.Giving.{some_number}
+use Rattle.inputs.specs.Inputs.{streams_refusal, table_refusal, unread, inputs_refusal, Begun, TableMet, Met}
+
+-- 1 and 2
+
+pub table_short : {table : List ℕ} {work : ℕ} {places : List ℕ} → work < work_limit → TableMet table work places (Err ShortWork)
+unfolding when◌then◌else◌
+table_short {work} short = record { number = rw (lt-ltb work work_limit short); good = tt }
+
+pub table_met : {table : List ℕ} {work : ℕ} {places : List ℕ} → work_limit ≤ work → (r : Option ℕ) → Accepted table r places → TableMet table work places (ok_or r BadTable)
+unfolding when◌then◌else◌
+table_met {work} enough None accepted = record { number = rw (le-ltb work work_limit enough, accepted.refused refl); good = tt }
+table_met {work} enough (Some n) accepted =
+    let records = accepted.found n refl in
+    record { number = rw (le-ltb work work_limit enough, records.is); good = record { enough = enough; records = records } }
+
+-- nothing is refused as it is said
+pub told_as : {A : Type 0} {x e : Refusal} (r : Option A) → Err x ≡ ok_or r e → r ≡ None → x ≡ e
+told_as None p q = cc
+told_as (Some a) p q = cc
 
 -- a refusal is told, and of the streams nothing
-refused_as : {table : List ℕ} {work : ℕ} {a b : Found} {places : List ℕ} {r : Inputs} (k : ℕ) → 1 ≤ k → inputs_refusal work (table_of table) a b ≡ k → r.refusal ≡ k
-    → Met table work a b places r
-refused_as k some is told = record { number = told ∙ sym is; good = λ none. absurd (omega (arith, told, none)) }
+refused_as : {table : List ℕ} {work : ℕ} {a b : Option Found} {places : List ℕ} {e : Refusal} → inputs_refusal work (table_of table) a b ≡ number_of e
+    → Met table work a b places (Err e)
+refused_as is = record { number = sym is; good = tt }
 
-module _ (table : List ℕ) (work : ℕ) (a b : Found) (places : List ℕ) {r : Inputs} where
-  pub meets_1 : work < work_limit → r.refusal ≡ 1 → Met table work a b places r
-  unfolding when◌then◌else◌
-  meets_1 short told = refused_as 1 (omega arith) (rw (lt-ltb work work_limit short)) told
+begin_refused : (k : ℕ) → 1 ≤ k → (a b : Option Found) (p : Bool) (t : Maybe Table) → k ≡ (when p then 1 else unread t)
+    → (when p then 1 else table_refusal t a b) ≡ k
+unfolding when◌then◌else◌
+begin_refused k at_least a b true t e = sym e
+begin_refused k at_least a b false nothing e = sym e
+begin_refused k at_least a b false (some t) e = absurd (omega (arith, at_least, e))
 
-  pub meets_2 : work_limit ≤ work → table_of table ≡ nothing → r.refusal ≡ 2 → Met table work a b places r
-  unfolding when◌then◌else◌
-  meets_2 enough bad told = refused_as 2 (omega arith) (rw (le-ltb work work_limit enough, bad)) told
+pub meets_table : {table : List ℕ} {work : ℕ} {places : List ℕ} {e : Refusal} → TableMet table work places (Err e) → (a b : Option Found) → Met table work a b places (Err e)
+meets_table {table} {work} {places} {e} met a b =
+    refused_as (begin_refused (number_of e) (some_number e) a b (ltb work work_limit) (table_of table) met.number)
 
 module _ {table places : List ℕ} {work k : ℕ} (t : Begun table work places k) where
-  with_table_lem : (a b : Found) → inputs_refusal work (table_of table) a b ≡ streams_refusal k a b
+  with_table_lem : (a b : Option Found) → inputs_refusal work (table_of table) a b ≡ streams_refusal k a b
   unfolding when◌then◌else◌
-  with_table_lem a b = rw (le-ltb work work_limit t.enough, t.is, t.counted)
+  with_table_lem a b = rw (le-ltb work work_limit t.enough, t.records.is, t.records.count)
 
-module _ {table places : List ℕ} {work k : ℕ} (t : Begun table work places k) {a b : Found} where
-  pub meets_3 : {r : Inputs} → a ≡ Broken → r.refusal ≡ 3 → Met table work a b places r
-  meets_3 first told = refused_as 3 (omega arith) (with_table_lem t a b ∙ rw first) told
+module _ {table places : List ℕ} {work k : ℕ} (t : Begun table work places k) {a b : Option Found} where
+  pub meets_3 : a ≡ None → Met table work a b places (Err BadFirst)
+  meets_3 first = refused_as (with_table_lem t a b ∙ rw first)
 
-  module _ {n x : ℕ} (first : a ≡ Stream n x) where
-    pub meets_4 : {r : Inputs} → b ≡ Broken → r.refusal ≡ 4 → Met table work a b places r
-    meets_4 second told = refused_as 4 (omega arith) (with_table_lem t a b ∙ rw (first, second)) told
+  module _ {f : Found} (first : a ≡ Some f) where
+    pub meets_4 : b ≡ None → Met table work a b places (Err BadSecond)
+    meets_4 second = refused_as (with_table_lem t a b ∙ rw (first, second))
 
-    module _ {m y : ℕ} (second : b ≡ Stream m y) where
-      pub meets_5 : {r : Inputs} → k < max x y → r.refusal ≡ 5 → Met table work a b places r
+    module _ {g : Found} (second : b ≡ Some g) where
+      pub meets_5 : k < max f.types g.types → Met table work a b places (Err UnknownType)
       unfolding when◌then◌else◌
-      meets_5 unknown told = refused_as 5 (omega arith) (with_table_lem t a b ∙ rw (first, second, lt-ltb k (max x y) unknown)) told
+      meets_5 unknown = refused_as (with_table_lem t a b ∙ rw (first, second, lt-ltb k (max f.types g.types) unknown))
 
-      module _ (x-known : x ≤ k) (y-known : y ≤ k) where
-        pub meets_7 : {r : Inputs} → node_limit < n + m → r.refusal ≡ 7 → Met table work a b places r
+      module _ (known : max f.types g.types ≤ k) where
+        pub meets_7 : node_limit < f.nodes + g.nodes → Met table work a b places (Err ManyNodes)
         unfolding when◌then◌else◌
-        meets_7 many told = refused_as 7 (omega arith) (with_table_lem t a b ∙ rw (first, second, le-ltb k (max x y) (omega arith), lt-ltb node_limit (n + m) many)) told
+        meets_7 many = refused_as (with_table_lem t a b ∙ rw (first, second, le-ltb k (max f.types g.types) known, lt-ltb node_limit (f.nodes + g.nodes) many))
 
-        pub meets_none : n + m ≤ node_limit → Met table work a b places (record { refusal = 0; first = n; second = m })
+        pub meets_none : f.nodes + g.nodes ≤ node_limit → Met table work a b places (Ok (record { first = f.nodes; second = g.nodes }))
         unfolding when◌then◌else◌
         meets_none few = record {
-          number = sym (with_table_lem t a b ∙ rw (first, second, le-ltb k (max x y) (omega arith), le-ltb node_limit (n + m) few));
-          good = λ _. record {
-            enough = t.enough;
-            layouts = t.table;
-            is = t.is;
-            placed = t.placed;
-            first_types = x;
+          number = sym (with_table_lem t a b ∙ rw (first, second, le-ltb k (max f.types g.types) known, le-ltb node_limit (f.nodes + g.nodes) few));
+          good = record {
+            types = k;
+            begun = t;
+            first_types = f.types;
             first = first;
-            first_known = omega (arith, t.counted);
-            second_types = y;
+            first_known = omega arith;
+            second_types = g.types;
             second = second;
-            second_known = omega (arith, t.counted);
+            second_known = omega arith;
             few = few;
           };
         }

@@ -8,20 +8,21 @@ use lib.ListN.{length}
 use Rattle.links.proofs.Stands.{stands_still}
 use Rattle.transfer_in.specs.Loading.{Loadable, Loaded, itself}
 use Rattle.inputs.specs.Inputs.{Both, BothLoaded}
+use Rattle.inputs.specs.declared.Nodes.{Nodes}
 
-module _ {first : List ℕ} {na : ℕ} {second : List ℕ} {nb : ℕ} {work : List ℕ} where
-  pub left_loadable : Both first na second nb work → Loadable first 1 na work 1
+module _ {first second : List ℕ} {n : Nodes} {work : List ℕ} where
+  pub left_loadable : Both first second n work → Loadable first 1 n.first work 1
   left_loadable both =
       record { usage = both.a; rest = []; reads = both.left_reads; many = both.left_nodes; some = omega arith; inside = omega (arith, both.inside); few = omega (arith, both.few) }
 
-  pub right_loadable : Both first na second nb work → {work₁ : List ℕ} → length work₁ ≡ length work → Loadable second 1 nb work₁ (1 + na)
+  pub right_loadable : Both first second n work → {work₁ : List ℕ} → length work₁ ≡ length work → Loadable second 1 n.second work₁ (1 + n.first)
   right_loadable both same =
       record { usage = both.b; rest = []; reads = both.right_reads; many = both.right_nodes; some = omega arith; inside = omega (arith, both.inside); few = omega (arith, both.few) }
 
-  pub both_loaded : {work₁ work₂ : List ℕ} {r r₁ : ℕ} → length work₂ ≡ length work₁ → Loaded first 1 work 1 work₁ r → Loaded second 1 work₁ (1 + na) work₂ r₁
-      → BothLoaded first na second nb work work₂
+  pub both_loaded : {work₁ work₂ : List ℕ} {r r₁ : ℕ} → length work₂ ≡ length work₁ → Loaded first 1 work 1 work₁ r → Loaded second 1 work₁ (1 + n.first) work₂ r₁
+      → BothLoaded first second n work work₂
   unfolding itself
   both_loaded {work₁} {work₂} same left right = record {
-    left = λ a e many. stands_still a work₁ work₂ 1 itself itself 1 (1 + na) same (λ i low high. (right.kept i (omega arith), refl)) (rw many at (left.stands a [] e));
+    left = λ a e many. stands_still a work₁ work₂ 1 itself itself 1 (1 + n.first) same (λ i low high. (right.kept i (omega arith), refl)) (rw many at (left.stands a [] e));
     right = λ b e many. rw many at (right.stands b [] e);
   }

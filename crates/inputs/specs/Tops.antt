@@ -1,6 +1,6 @@
 -- An Opaque and another top: whether they conflict.
 -- Assumes nothing.
-use Rattle.std.specs.Prelude.{ℕ, ◌≤◌, ◌≡◌, List}
+use Rattle.std.specs.Prelude.{ℕ, ◌≡◌, Bool, List}
 use Rattle.std.proofs.Math.Option.{some}
 use Rattle.definitions.specs.Usage.{Top, opaque}
 use Rattle.definitions.specs.Stream.{top_of}
@@ -15,8 +15,7 @@ pub record OpaqueFirst (first second : List ℕ) : Type 0 where
   pub first_is : top_of first ≡ some (opaque type)
   pub second_is : top_of second ≡ some other
 
--- r is 1 where they conflict, else 0
-pub record Conflicts (first second : List ℕ) (r : ℕ) : Type 0 where
-  pub small : r ≤ 1
+-- r says whether they conflict
+pub record Conflicts (first second : List ℕ) (r : Bool) : Type 0 where
   pub of : (st : Setting) (t : ℕ) (b : Top) → top_of first ≡ some (opaque t) → top_of second ≡ some b
       → merge st (opaque t) b ≡ done (opaque t) (unlike_report r) 0

@@ -3,42 +3,51 @@
 use Prim.Native.Nat.{ℕ}
 use mathlib.Core.Path.{◌≡◌, refl, ap, fun_ext, ◌∙◌}
 use mathlib.Core.List.{List, ◌∷◌}
-use mathlib.Core.Option.{Option, none as nothing, some}
+use mathlib.Core.Option.{Option as Maybe, none as nothing, some}
 use native.Mathlib.Omega.{arith}
 use borrow.Author.Tests.{le-leb}
 use lib.ListN.{length, take, replicate}
+use Rattle.std.specs.Prelude.{Option, Result as Returned, Ok, Err, OnOk, OnErr}
 use Rattle.definitions.specs.Limits.{work_limit}
-use Rattle.definitions.specs.Usage.{memory, Nodes, all_nodes}
+use Rattle.definitions.specs.Usage.{memory, Nodes as Listed, all_nodes}
 use Rattle.definitions.specs.Stream.{write_top, list_of}
 use Rattle.definitions.specs.Table.{Setting}
 use Rattle.definitions.specs.Place.{Result, under, fold}
-use Rattle.definitions.specs.Calls.{given, with_table, all_types_in, checked, refusal, written, fold_call}
+use Rattle.definitions.specs.Calls.{given, with_table, all_types_in, checked, written, fold_call}
 use Rattle.definitions.proofs.Written.{Bytes}
 use Rattle.definitions.proofs.ReadsBack.{list_storable}
 use Rattle.stream.specs.Found.{all_bound, told}
 use Rattle.stream.specs.declared.Found.{Found}
-use Rattle.stream.specs.declared.Found.TheVariants.{Stream}
-use Rattle.place_states.specs.declared.Outcome.{Outcome}
-use Rattle.answers.specs.Answers.{answer_of}
-use Rattle.inputs.specs.Inputs.{Met}
-use Rattle.answers.specs.Writing.{Gives, Reachable, Finished}
+use Rattle.layout.specs.Places.{Holds}
+use Rattle.layout.specs.declared.Table.{Table}
+use Rattle.layout.proofs.Uses.{known as known_table}
+use Rattle.report.specs.declared.Report.{Report}
+use Rattle.place_states.specs.Refusals.{number_of as size_number}
+use Rattle.place_states.specs.declared.SizeRefusal.{SizeRefusal}
+use Rattle.place_states.specs.declared.Merged.{Merged}
+use Rattle.answers.specs.Answers.{number_of}
+use Rattle.inputs.specs.Inputs.{Good, Met}
+use Rattle.answers.specs.Writing.{Gives, Comes, Reachable, Finished}
 use Rattle.folding.specs.Folding.{Foldable, FoldReady, AllFolded}
-use Rattle.answers.specs.declared.Answer.{Answer}
-use Rattle.inputs.specs.declared.Inputs.{Inputs}
+use Rattle.answers.specs.declared.Refusal.{Refusal}
+use Rattle.answers.specs.declared.Written.{Written}
+use Rattle.answers.proofs.Giving.{comes_kept, gives_cleared}
+use Rattle.answers.proofs.Reaching.{refused_as}
+use Rattle.inputs.specs.declared.Nodes.{Nodes}
 use Rattle.serving.specs.Loaded.{ListGiven}
 use Rattle.serving.proofs.Lent.{area_lent}
 use Rattle.inputs.proofs.Types.{all_types_in_lem}
-use Rattle.inputs.proofs.Accepting.{one_body, one_refused, OneGoing, one_goes_on}
+use Rattle.inputs.proofs.Accepting.{none_told, one_body, one_refused, OneGoing, one_goes_on}
 
 -- what is told of a list
-abbrev pub told_list : List ℕ → Found
+abbrev pub told_list : List ℕ → Option Found
 told_list bs = told all_nodes all_bound (list_of bs)
 
-abbrev folded : Setting → Nodes → Result (List ℕ)
+abbrev folded : Setting → Listed → Result (List ℕ)
 folded st ns = under (λ u. write_top (memory u)) (fold st ns)
 
 -- the types are in the table where their bound is
-by_bound : (x : Option Nodes) (st : Setting)
+by_bound : (x : Maybe Listed) (st : Setting)
     → (given 3 x λ ns. checked (all_types_in st.table (ns.first ∷ ns.others)) (all_nodes ns) (folded st ns)) ≡ one_body all_nodes all_bound folded x st
 by_bound nothing st = refl
 by_bound (some ns) st = rw (all_types_in_lem st.table (ns.first ∷ ns.others))
@@ -49,45 +58,56 @@ module _ (table : List ℕ) (work : ℕ) (list : List ℕ) where
   unfolding fold_call
   call_is output n e = ap (written output n) (ap (with_table work table) (fun_ext (by_bound (list_of list))) ∙ e)
 
-  module _ {places : List ℕ} {t : Inputs} (met : Met table work (told_list list) (Stream 0 0) places t) where
-    pub fold_refused : (output : List ℕ) (n : ℕ) {a : Answer} {report : List ℕ} → (t.refusal ≡ 0 → ⊥)
-        → (answer_of a ≡ refusal t.refusal) × (report ≡ replicate n 0) → Gives (fold_call table work list output n) a output report
-    fold_refused output n not-0 told =
-        rw (call_is output n (one_refused all_nodes all_bound folded table work (list_of list) met not-0))
-        (record { numbers = told.0; usage = refl; reported = told.1 })
+  pub fold_cleared : (output : List ℕ) (n : ℕ) (r : Returned Written Refusal) {r' : Returned Written Refusal} {output' report report' : List ℕ}
+      → Comes (fold_call table work list output n) r output' report → length report ≡ n → r' ≡ r
+      → OnOk r (report' ≡ report) → OnErr r (report' ≡ replicate (length report) 0) → Gives (fold_call table work list output n) r' output' report'
+  fold_cleared output n r comes long same kept zeroed =
+      let x = with_table work table (one_body all_nodes all_bound folded (list_of list)) in
+      let is = call_is output n {x = x} refl in
+      rw is (gives_cleared output n x r (rw is at comes) long same kept zeroed)
 
-    module _ (is-0 : t.refusal ≡ 0) (bytes : Bytes list) where
+  module _ {places : List ℕ} where
+    pub fold_refused : {e : Refusal} → Met table work (told_list list) none_told places (Err e)
+        → (output : List ℕ) (n : ℕ) {report : List ℕ} → Comes (fold_call table work list output n) (Err e) output report
+    fold_refused met output n = rw (call_is output n (one_refused all_nodes all_bound folded table work (list_of list) met)) (comes_kept output n refl)
+
+    module _ {n : Nodes} (good : Good table work (told_list list) none_told places n) (bytes : Bytes list) {lent : Table} (holds : Holds lent table places good.types) where
       abbrev setting : Setting
-      setting = record { table = (met.good is-0).layouts }
+      setting = record { table = good.begun.records.layouts }
 
-      going : OneGoing all_nodes all_bound folded table work (list_of list) setting.table t.first
-      going = one_goes_on all_nodes all_bound folded table work (list_of list) (met.good is-0)
+      going : OneGoing all_nodes all_bound folded table work (list_of list) setting.table n.first
+      going = one_goes_on all_nodes all_bound folded table work (list_of list) good
 
-      foldable : Foldable table places list setting going.first
+      foldable : Foldable lent list setting going.first
       foldable =
           let ns = going.first in
           record {
-            known = record { read = (met.good is-0).is; placed = (met.good is-0).placed };
+            known = known_table good.begun.records holds;
             is = going.first_is;
             fits =
                 list_storable setting.table list bytes ns going.first_is
                 (all_types_in_lem setting.table (ns.first ∷ ns.others) ∙ le-leb (all_bound ns) (length setting.table) going.first_known);
-            few = omega (arith, going.first_nodes, (met.good is-0).few);
+            few = omega (arith, going.first_nodes, good.few);
           }
 
-      pub fold_ready : {k : ℕ} → k ≡ work_limit → (lent : List ℕ) → length lent ≡ work → FoldReady table places list (take k lent)
-      fold_ready asked lent same =
-          record { setting = setting; listed = going.first; foldable = foldable; area = area_lent asked lent same (met.good is-0).enough }
+      pub fold_ready : {k : ℕ} → k ≡ work_limit → (area : List ℕ) → length area ≡ work → FoldReady lent list (take k area)
+      fold_ready asked area same =
+          record { setting = setting; listed = going.first; foldable = foldable; area = area_lent asked area same good.begun.enough }
 
-      pub fold_given : (output rep : List ℕ) {a : Answer} {output' rep' : List ℕ} → ListGiven table places list output rep a output' rep'
-          → Gives (fold_call table work list output (length rep)) a output' rep'
+      pub fold_given : (output rep : List ℕ) {r : Returned Written Refusal} {output' rep' : List ℕ} → ListGiven lent list output rep r output' rep'
+          → Comes (fold_call table work list output (length rep)) r output' rep'
       fold_given output rep given = rw (call_is output (length rep) going.goes) (given.of setting going.first foldable)
 
 -- what was folded is given back
-module _ {table places list work : List ℕ} (ready : FoldReady table places list work) {work' : List ℕ} {r : Outcome} {rep' : List ℕ} (all : AllFolded table places list work' r rep') where
-  pub fold_reached : Reachable work' r rep'
-  fold_reached = record { result = fold ready.setting ready.listed; reached = all.of ready.setting ready.listed ready.foldable }
+module _ {table : Table} {list work : List ℕ} (ready : FoldReady table list work) {work' : List ℕ} {rep rep' : Report} where
+  pub fold_reached : {m : Merged} → AllFolded table list work' rep rep' (Ok m) → Reachable work' m rep'
+  fold_reached all = record { result = fold ready.setting ready.listed; reached = all.of ready.setting ready.listed ready.foldable }
 
-  pub list_given : {output rep : List ℕ} {a : Answer} {output' rep'' : List ℕ} → length rep' ≡ length rep → Finished 0x0A r work' output rep' a output' rep''
-      → ListGiven table places list output rep a output' rep''
-  list_given long finished = record { of = λ st ns foldable. rw (← long) (finished.of (fold st ns) (all.of st ns foldable)) }
+  pub list_refused : {e : SizeRefusal} → AllFolded table list work' rep rep' (Err e) → {e' : Refusal} → number_of e' ≡ size_number e
+      → {output report report' : List ℕ} → ListGiven table list output report (Err e') output report'
+  list_refused {e} all same {output = output} {report = report} = record { of = λ st ns foldable. refused_as output (length report) _ work' rep' e (fold st ns) same (all.of st ns foldable) }
+
+  pub list_given : {m : Merged} → AllFolded table list work' rep rep' (Ok m) → {output report : List ℕ} {r : Returned Written Refusal} {output' : List ℕ} {rep₃ : Report} {report' : List ℕ}
+      → length rep'.buffer.now ≡ length report → report' ≡ rep₃.buffer.now → Finished 0x0A m work' output rep' r output' rep₃
+      → ListGiven table list output report r output' report'
+  list_given all long same finished = record { of = λ st ns foldable. rw (← long, same) (finished.of (fold st ns) (all.of st ns foldable)) }

@@ -3,35 +3,40 @@
 -- Assumes nothing.
 use Prim.Native.Nat.{ℕ, ◌≤◌}
 use mathlib.Core.Path.{◌≡◌, refl, sym, ap, ◌∙◌}
+use mathlib.Core.Bool.{Bool, true}
 use mathlib.Core.List.{List, ◌∷◌}
 use mathlib.Core.Option.{some}
 use native.Mathlib.Omega.{arith}
 use lib.ListN.{length, get_or, replicate}
 use Rattle.definitions.specs.Usage.{Usage, Top, opaque, buffer, memory, top_nodes}
 use Rattle.definitions.specs.Stream.{write_node, write_top, top_of}
-use Rattle.definitions.specs.Table.{Setting}
+use Rattle.definitions.specs.Table.{Table as Layouts, Setting}
 use Rattle.definitions.specs.Place.{Result, refused, done, under, merge_mem, unlike, merge}
-use Rattle.definitions.specs.Calls.{with_table, refusal, written, merge_call}
+use Rattle.definitions.specs.Calls.{with_table, written, merge_call}
 use Rattle.definitions.proofs.Written.{Bytes}
 use Rattle.definitions.proofs.Rounds.{top_written}
 use Rattle.place_states.specs.Calls.{merging}
 use Rattle.stream.specs.Found.{top_bound, told}
 use Rattle.stream.specs.declared.Found.{Found}
-use Rattle.answers.specs.Answers.{answer_of}
+use Rattle.std.specs.Prelude.{Option, Result as Returned, Err, OnOk, OnErr}
+use Rattle.layout.specs.Places.{Holds}
+use Rattle.layout.specs.declared.Table.{Table}
+use Rattle.layout.proofs.Uses.{known as known_table}
 use Rattle.inputs.specs.Inputs.{Good, Met}
 use Rattle.inputs.specs.Tops.{OpaqueFirst, Conflicts}
-use Rattle.answers.specs.Writing.{Gives, unlike_report}
-use Rattle.answers.specs.declared.Answer.{Answer}
-use Rattle.inputs.specs.declared.Inputs.{Inputs}
+use Rattle.answers.specs.Writing.{Gives, Comes, unlike_report}
+use Rattle.answers.specs.declared.Refusal.{Refusal}
+use Rattle.answers.specs.declared.Written.{Written}
+use Rattle.inputs.specs.declared.Nodes.{Nodes}
 use Rattle.inputs.proofs.Types.{top_types_in_lem}
-use Rattle.answers.proofs.Giving.{gives_kept}
+use Rattle.answers.proofs.Giving.{comes_kept, gives_cleared}
 use Rattle.inputs.proofs.Accepting.{body, refused_by, Going, goes_on}
 use Rattle.serving.specs.Loaded.{Pair, PairGiven}
 use Rattle.serving.proofs.Pairs.{usable}
 use Rattle.inputs.proofs.FirstBytes.{first_byte_of, some_bytes, first_byte}
 
 -- what is told of a stream
-abbrev pub told_top : List ℕ → Found
+abbrev pub told_top : List ℕ → Option Found
 told_top bs = told top_nodes top_bound (top_of bs)
 
 -- tops of different kinds
@@ -73,19 +78,28 @@ module _ (table : List ℕ) (work : ℕ) (first second : List ℕ) where
   unfolding merge_call
   call_is output n = simp top_types_in_lem
 
+  pub merge_cleared : (output : List ℕ) (n : ℕ) (r : Returned Written Refusal) {r' : Returned Written Refusal} {output' report report' : List ℕ}
+      → Comes (merge_call table work first second output n) r output' report → length report ≡ n → r' ≡ r
+      → OnOk r (report' ≡ report) → OnErr r (report' ≡ replicate (length report) 0) → Gives (merge_call table work first second output n) r' output' report'
+  merge_cleared output n r comes long same kept zeroed =
+      let x = with_table work table (body top_nodes top_bound top_nodes top_bound next (top_of first) (top_of second)) in
+      rw (call_is output n) (gives_cleared output n x r (rw (call_is output n) at comes) long same kept zeroed)
+
   module _ {places : List ℕ} where
-    pub merge_refused : {r : Inputs} → Met table work (told_top first) (told_top second) places r → (r.refusal ≡ 0 → ⊥)
-        → (output : List ℕ) (n : ℕ) {a : Answer} {rep : List ℕ} → (answer_of a ≡ refusal r.refusal) × (rep ≡ replicate n 0)
-        → Gives (merge_call table work first second output n) a output rep
-    merge_refused met not0 output n told =
-        rw (call_is output n, refused_by top_nodes top_bound top_nodes top_bound next table work (top_of first) (top_of second) met not0)
-        (gives_kept output n told refl)
+    pub merge_refused : {e : Refusal} → Met table work (told_top first) (told_top second) places (Err e)
+        → (output : List ℕ) (n : ℕ) {report : List ℕ} → Comes (merge_call table work first second output n) (Err e) output report
+    merge_refused met output n =
+        rw (call_is output n, refused_by top_nodes top_bound top_nodes top_bound next table work (top_of first) (top_of second) met)
+        (comes_kept output n refl)
 
-    module _ {na nb : ℕ} (good : Good table work (told_top first) (told_top second) places na nb) (bytes : Bytes first) (bytes' : Bytes second) where
+    module _ {n : Nodes} (good : Good table work (told_top first) (told_top second) places n) (bytes : Bytes first) (bytes' : Bytes second) where
+      abbrev layouts : Layouts
+      layouts = good.begun.records.layouts
+
       abbrev setting : Setting
-      setting = record { table = good.layouts }
+      setting = record { table = layouts }
 
-      pub goes : Going top_nodes top_bound top_nodes top_bound next table work (top_of first) (top_of second) good.layouts na nb
+      pub goes : Going top_nodes top_bound top_nodes top_bound next table work (top_of first) (top_of second) layouts n.first n.second
       goes = goes_on top_nodes top_bound top_nodes top_bound next table work (top_of first) (top_of second) good
 
       pub first_some : 1 ≤ length first
@@ -97,11 +111,11 @@ module _ (table : List ℕ) (work : ℕ) (first second : List ℕ) where
       -- the first stays
 
       keeps : (w : List ℕ) → merge setting goes.first goes.second ≡ done goes.first w 0 → (output : List ℕ) (n : ℕ)
-          → {a : Answer} {output' rep : List ℕ} → Gives (written output n (done first w 0)) a output' rep
-          → Gives (merge_call table work first second output n) a output' rep
-      keeps w e output n gives =
+          → {r : Returned Written Refusal} {output' rep : List ℕ} → Comes (written output n (done first w 0)) r output' rep
+          → Comes (merge_call table work first second output n) r output' rep
+      keeps w e output n comes =
           let all : next setting goes.first goes.second ≡ done first w 0 = ap (under write_top) e ∙ ap (λ (bs : List ℕ). done bs w 0) (sym (top_written first goes.first bytes goes.first_is).0) in
-          rw (call_is output n, goes.goes ∙ all) gives
+          rw (call_is output n, goes.goes ∙ all) comes
 
       module _ (is : get_or first 0 0 ≡ 0x08) where
         pub opaque_first : OpaqueFirst first second
@@ -112,23 +126,23 @@ module _ (table : List ℕ) (work : ℕ) (first second : List ℕ) where
             go (buffer u) e = absurd (omega (arith, first_byte first bytes e))
             go (memory u) e = absurd (omega (arith, first_byte first bytes e))
 
-        pub merge_opaque : {r : ℕ} → Conflicts first second r → (output : List ℕ) (n : ℕ) {a : Answer} {output' rep : List ℕ}
-            → Gives (written output n (done first (unlike_report r) 0)) a output' rep → Gives (merge_call table work first second output n) a output' rep
-        merge_opaque {r} conflicts output n gives =
+        pub merge_opaque : {unlike : Bool} → Conflicts first second unlike → (output : List ℕ) (n : ℕ) {r : Returned Written Refusal} {output' rep : List ℕ}
+            → Comes (written output n (done first (unlike_report unlike) 0)) r output' rep → Comes (merge_call table work first second output n) r output' rep
+        merge_opaque {unlike} conflicts output n comes =
             let o = opaque_first in
             let same : goes.first ≡ opaque o.type = cc (goes.first_is, o.first_is) in
-            keeps (unlike_report r) (rw same (conflicts.of setting o.type goes.second o.first_is goes.second_is)) output n gives
+            keeps (unlike_report unlike) (rw same (conflicts.of setting o.type goes.second o.first_is goes.second_is)) output n comes
 
-      pub merge_unlike : (get_or first 0 0 ≡ get_or second 0 0 → ⊥) → (output : List ℕ) (n : ℕ) {a : Answer} {output' rep : List ℕ}
-          → Gives (written output n (done first (unlike_report 1) 0)) a output' rep → Gives (merge_call table work first second output n) a output' rep
-      merge_unlike differ output n gives =
-          keeps (unlike_report 1)
+      pub merge_unlike : (get_or first 0 0 ≡ get_or second 0 0 → ⊥) → (output : List ℕ) (n : ℕ) {r : Returned Written Refusal} {output' rep : List ℕ}
+          → Comes (written output n (done first (unlike_report true) 0)) r output' rep → Comes (merge_call table work first second output n) r output' rep
+      merge_unlike differ output n comes =
+          keeps (unlike_report true)
           (of_unlike setting goes.first goes.second (λ same. differ (first_byte first bytes goes.first_is ∙ same ∙ sym (first_byte second bytes' goes.second_is))))
-          output n gives
+          output n comes
 
       -- two tops merge as the usages of the two streams do, behind this first byte
       pub record Merged (x y : Top) (top : ℕ) : Type 0 where
-        pub pair : Pair good.layouts first second na nb
+        pub pair : Pair layouts first second n
         pub is : next setting x y ≡ under (λ u. top ∷ write_node u) (merge_mem setting pair.a pair.b)
 
       -- so do those that were read
@@ -143,25 +157,26 @@ module _ (table : List ℕ) (work : ℕ) (first second : List ℕ) where
           left : get_or first 0 0 ≡ first_byte_of goes.first
           left = first_byte first bytes goes.first_is
 
-          go : {x y : Top} → Alike x y → top_of first ≡ some x → top_of second ≡ some y → na ≡ top_nodes x → nb ≡ top_nodes y
-              → top_bound x ≤ length good.layouts → top_bound y ≤ length good.layouts → Merged x y (get_or first 0 0)
-          go (buffers a b) e f n m k l =
+          go : {x y : Top} → Alike x y → top_of first ≡ some x → top_of second ≡ some y → n.first ≡ top_nodes x → n.second ≡ top_nodes y
+              → top_bound x ≤ length layouts → top_bound y ≤ length layouts → Merged x y (get_or first 0 0)
+          go (buffers a b) e f p q k l =
               let w = top_written first (buffer a) bytes e in
               let v = top_written second (buffer b) bytes' f in
               record {
-                pair = record { a = a; b = b; left = usable good.layouts 0x09 w.0 w.1 k; right = usable good.layouts 0x09 v.0 v.1 l; left_nodes = n; right_nodes = m };
+                pair = record { a = a; b = b; left = usable layouts 0x09 w.0 w.1 k; right = usable layouts 0x09 v.0 v.1 l; left_nodes = p; right_nodes = q };
                 is = rw (first_byte first bytes e) (under_both buffer write_top (merge_mem setting a b));
               }
-          go (memories a b) e f n m k l =
+          go (memories a b) e f p q k l =
               let w = top_written first (memory a) bytes e in
               let v = top_written second (memory b) bytes' f in
               record {
-                pair = record { a = a; b = b; left = usable good.layouts 0x0A w.0 w.1 k; right = usable good.layouts 0x0A v.0 v.1 l; left_nodes = n; right_nodes = m };
+                pair = record { a = a; b = b; left = usable layouts 0x0A w.0 w.1 k; right = usable layouts 0x0A v.0 v.1 l; left_nodes = p; right_nodes = q };
                 is = rw (first_byte first bytes e) (under_both memory write_top (merge_mem setting a b));
               }
 
-      pub merge_gives : {top : ℕ} (k : ReadMerged top) (output rep : List ℕ) {a : Answer} {output' rep' : List ℕ} → PairGiven top merging table places first na second nb output rep a output' rep'
-          → Gives (merge_call table work first second output (length rep)) a output' rep'
+      pub merge_gives : {top : ℕ} (k : ReadMerged top) {lent : Table} → Holds lent table places good.types → (output rep : List ℕ)
+          → {r : Returned Written Refusal} {output' rep' : List ℕ} → PairGiven top merging lent first second n output rep r output' rep'
+          → Comes (merge_call table work first second output (length rep)) r output' rep'
       unfolding merging
-      merge_gives k output rep given =
-          rw (call_is output (length rep), goes.goes ∙ k.is) (given.of setting (record { read = good.is; placed = good.placed }) k.pair good.few)
+      merge_gives k holds output rep given =
+          rw (call_is output (length rep), goes.goes ∙ k.is) (given.of setting (known_table good.begun.records holds) k.pair good.few)

@@ -2,7 +2,7 @@
 -- placed one into the other, and what that leaves in the work area is what the definition gives.
 -- Assumes nothing.
 use Prim.Native.Nat.{ℕ, ◌+◌, ◌≤◌}
-use mathlib.Core.Path.{◌≡◌, refl, sym}
+use mathlib.Core.Path.{◌≡◌, sym}
 use mathlib.Core.List.{List, [], ◌∷◌, append-nil}
 use native.Mathlib.Omega.{arith}
 use borrow.Author.Tests.{le-leb}
@@ -10,8 +10,8 @@ use lib.ListN.{length, take}
 use Rattle.definitions.specs.Limits.{node_limit, work_limit}
 use Rattle.definitions.specs.Usage.{Usage, nodes}
 use Rattle.definitions.specs.Stream.{write_node}
-use Rattle.definitions.specs.Table.{Table, Setting}
-use Rattle.definitions.specs.Place.{Result}
+use Rattle.definitions.specs.Table.{Table as Layouts, Setting}
+use Rattle.definitions.specs.Place.{Result, refused, done}
 use Rattle.definitions.proofs.FewPairings.{place_few, merge_mem_few}
 use Rattle.definitions.proofs.Writable.{Writable}
 use Rattle.definitions.proofs.Storable.{known_storable}
@@ -20,32 +20,43 @@ use Rattle.links.specs.Rows.{nodes_at}
 use Rattle.layout.specs.Places.{Known}
 use Rattle.stream.specs.Found.{type_bound}
 use Rattle.stream.specs.declared.Found.{Found}
+use Rattle.std.specs.Prelude.{Option, Result as Returned, Ok, Err}
+use Rattle.layout.specs.Places.{Holds}
+use Rattle.layout.specs.declared.Table.{Table}
+use Rattle.layout.proofs.Uses.{known as known_table}
+use Rattle.report.specs.declared.Report.{Report}
+use Rattle.inputs.specs.declared.Nodes.{Nodes}
 use Rattle.transfer_in.specs.Loading.{itself}
-use Rattle.place_states.specs.Calls.{Two, Ready, Near, Placed, ground, placing, merging}
-use Rattle.place_states.specs.declared.Outcome.{Outcome}
+use Rattle.place_states.specs.Calls.{Two, Ready, Near, Done, Placed, ground, placing, merging}
+use Rattle.place_states.specs.declared.SizeRefusal.{SizeRefusal}
+use Rattle.place_states.specs.declared.Merged.{Merged}
 use Rattle.inputs.specs.Inputs.{Good, Both, BothLoaded}
 use Rattle.answers.specs.Writing.{Reached, Reachable, Finished}
-use Rattle.answers.specs.declared.Answer.{Answer}
+use Rattle.answers.specs.declared.Refusal.{Refusal}
+use Rattle.answers.specs.declared.Written.{Written}
 use Rattle.inputs.proofs.Types.{types_in_lem}
 use Rattle.inputs.proofs.Lending.{ready_two, near_two}
-use Rattle.answers.proofs.Reaching.{FewIn, reached}
+use Rattle.place_states.specs.Refusals.{number_of as size_number}
+use Rattle.answers.specs.Answers.{number_of}
+use Rattle.answers.proofs.Reaching.{FewIn, reached, refused_as}
 use Rattle.serving.specs.Loaded.{Usable, Pair, PairReady, PairGiven}
 use Rattle.serving.proofs.Lent.{area_lent}
 
-pub usable : (t : Table) {bs : List ℕ} (c : ℕ) {u : Usage} → bs ≡ c ∷ write_node u → Writable u → type_bound u ≤ length t → Usable t bs u
+pub usable : (t : Layouts) {bs : List ℕ} (c : ℕ) {u : Usage} → bs ≡ c ∷ write_node u → Writable u → type_bound u ≤ length t → Usable t bs u
 usable t c {u} e fits known = record {
   reads = rw e (rw append-nil at (write_read u [] fits));
   fits = known_storable t u fits (rw (types_in_lem t u) (le-leb (type_bound u) (length t) known));
 }
 
-pub pair_ready : {table places : List ℕ} {size : ℕ} {x y : Found} {na nb : ℕ} (good : Good table size x y places na nb) {first second : List ℕ} → Pair good.layouts first second na nb
-    → {k : ℕ} → k ≡ work_limit → (work : List ℕ) → length work ≡ size → PairReady table places first na second nb (take k work)
-pair_ready good pair asked work same = record {
-  setting = record { table = good.layouts };
-  known = record { read = good.is; placed = good.placed };
+pub pair_ready : {table places : List ℕ} {size : ℕ} {x y : Option Found} {n : Nodes} (good : Good table size x y places n) {lent : Table} → Holds lent table places good.types
+    → {first second : List ℕ} → Pair good.begun.records.layouts first second n
+    → {k : ℕ} → k ≡ work_limit → (work : List ℕ) → length work ≡ size → PairReady lent first second n (take k work)
+pair_ready good holds pair asked work same = record {
+  setting = record { table = good.begun.records.layouts };
+  known = known_table good.begun.records holds;
   pair = pair;
   few = good.few;
-  area = area_lent asked work same good.enough;
+  area = area_lent asked work same good.begun.enough;
 }
 
 -- what placing and merging answer is made of few nodes
@@ -58,8 +69,8 @@ pub merging_few : (st : Setting) (a b : Usage) (n : ℕ) → nodes a + nodes b �
 unfolding merging
 merging_few st a b n few u w p e = merge_mem_few st a b e few
 
-module _ {table places first : List ℕ} {na : ℕ} {second : List ℕ} {nb : ℕ} {work : List ℕ} (ready : PairReady table places first na second nb work) where
-  pub both : Both first na second nb work
+module _ {table : Table} {first second : List ℕ} {n : Nodes} {work : List ℕ} (ready : PairReady table first second n work) where
+  pub both : Both first second n work
   both =
       let pair = ready.pair in
       record {
@@ -73,8 +84,9 @@ module _ {table places first : List ℕ} {na : ℕ} {second : List ℕ} {nb : �
         few = omega (arith, ready.few);
       }
 
-  module _ {work₁ : List ℕ} (same : length work₁ ≡ length work) (loaded : BothLoaded first na second nb work work₁) where
-    two : (st : Setting) (pair : Pair st.table first second na nb) → Two (length st.table) work₁ 1 (1 + na) itself 1 (1 + na) (1 + na + nb) pair.a pair.b
+  module _ {work₁ : List ℕ} (same : length work₁ ≡ length work) (loaded : BothLoaded first second n work work₁) where
+    two : (st : Setting) (pair : Pair st.table first second n)
+        → Two (length st.table) work₁ 1 (1 + n.first) itself 1 (1 + n.first) (1 + n.first + n.second) pair.a pair.b
     two st pair = record {
       left = loaded.left pair.a pair.left.reads (sym pair.left_nodes);
       right = loaded.right pair.b pair.right.reads (sym pair.right_nodes);
@@ -83,23 +95,41 @@ module _ {table places first : List ℕ} {na : ℕ} {second : List ℕ} {nb : �
       few = omega (arith, ready.few, pair.left_nodes, pair.right_nodes);
     }
 
-    pub merges : Ready table places work₁ 1 (1 + na)
+    pub merges : Ready table work₁ 1 (1 + n.first)
     merges = ready_two ready.setting (two ready.setting ready.pair) ready.known (omega (arith, ready.area))
 
-    pub near : Near 0 (nodes_at work₁ 1 + nodes_at work₁ (1 + na))
+    pub near : Near 0 (nodes_at work₁ 1 + nodes_at work₁ (1 + n.first))
     near = near_two (two ready.setting ready.pair) 0 (omega arith)
 
-    module _ (z : Setting → Usage → Usage → Result Usage) (small : (st : Setting) (a b : Usage) (n : ℕ) → nodes a + nodes b ≤ n → FewIn n (z st a b)) {work₂ : List ℕ} {r : Outcome} {rep rep₂ : List ℕ}
-        (placed : Placed z table places work₁ 1 (1 + na) work₂ r.refusal r.node r.pairings rep 0 rep₂ r.at) where
-      reaches : (st : Setting) → Known table places st → (pair : Pair st.table first second na nb) → Reached (z st pair.a pair.b) work₂ r rep₂
-      reaches st known pair =
-          reached node_limit (omega arith) (ground work₁ itself 1 (1 + na + nb) rep 0) refl work₂ r rep₂ (z st pair.a pair.b)
+    module _ (z : Setting → Usage → Usage → Result Usage) (small : (st : Setting) (a b : Usage) (m : ℕ) → nodes a + nodes b ≤ m → FewIn m (z st a b)) {work₂ : List ℕ} {rep rep₂ : Report}
+        (start : rep.at ≡ 0) where
+      reaches : {r : Returned Merged SizeRefusal} → Placed z table work₁ 1 (1 + n.first) work₂ r rep rep₂
+          → (st : Setting) → Known table st → (pair : Pair st.table first second n) → Reached (z st pair.a pair.b) work₂ r rep₂
+      reaches {r} placed st known pair =
+          reached node_limit (omega arith) (ground work₁ itself 1 (1 + n.first + n.second) rep) start work₂ rep₂ r (z st pair.a pair.b)
           (small st pair.a pair.b node_limit (omega (arith, ready.few, pair.left_nodes, pair.right_nodes)))
-          (placed.done st known pair.a pair.b itself 1 (1 + na) (1 + na + nb) (two st pair))
+          (placed.done st known pair.a pair.b itself 1 (1 + n.first) (1 + n.first + n.second) (two st pair))
 
-      pub reachable : Reachable work₂ r rep₂
-      reachable = record { result = z ready.setting ready.pair.a ready.pair.b; reached = reaches ready.setting ready.known ready.pair }
+      -- what was reported is in the buffer that was lent
+      pub same_buffer : {m : Merged} → Placed z table work₁ 1 (1 + n.first) work₂ (Ok m) rep rep₂
+          → (length rep₂.buffer.now ≡ length rep.buffer.now) × (rep₂.buffer.ghost_name ≡ rep.buffer.ghost_name)
+      same_buffer {m} placed = go (z ready.setting ready.pair.a ready.pair.b)
+          (placed.done ready.setting ready.known ready.pair.a ready.pair.b itself 1 (1 + n.first) (1 + n.first + n.second) (two ready.setting ready.pair))
+        where
+          go : (x : Result Usage) → Done x (ground work₁ itself 1 (1 + n.first + n.second) rep) work₂ (Ok m) rep₂
+              → (length rep₂.buffer.now ≡ length rep.buffer.now) × (rep₂.buffer.ghost_name ≡ rep.buffer.ghost_name)
+          go (refused k) D = absurd D
+          go (done u w q) D = (D.report.size, D.report.same_buffer)
 
-      pub given : {top : ℕ} {output : List ℕ} {a : Answer} {output' rep₃ : List ℕ} → length rep₂ ≡ length rep → Finished top r work₂ output rep₂ a output' rep₃
-          → PairGiven top z table places first na second nb output rep a output' rep₃
-      given long finished = record { of = λ st known pair few. rw (← long) (finished.of (z st pair.a pair.b) (reaches st known pair)) }
+      pub reachable : {m : Merged} → Placed z table work₁ 1 (1 + n.first) work₂ (Ok m) rep rep₂ → Reachable work₂ m rep₂
+      reachable placed = record { result = z ready.setting ready.pair.a ready.pair.b; reached = reaches placed ready.setting ready.known ready.pair }
+
+      pub given_refused : {e : SizeRefusal} → Placed z table work₁ 1 (1 + n.first) work₂ (Err e) rep rep₂
+          → {e' : Refusal} → number_of e' ≡ size_number e → {top : ℕ} {output report report' : List ℕ} → PairGiven top z table first second n output report (Err e') output report'
+      given_refused {e} placed same {output = output} {report = report} = record { of = λ st known pair few. refused_as output (length report) _ work₂ rep₂ e (z st pair.a pair.b) same (reaches placed st known pair) }
+
+      pub given : {m : Merged} → Placed z table work₁ 1 (1 + n.first) work₂ (Ok m) rep rep₂
+          → {top : ℕ} {output report : List ℕ} {r : Returned Written Refusal} {output' : List ℕ} {rep₃ : Report} {report' : List ℕ}
+          → length rep₂.buffer.now ≡ length report → report' ≡ rep₃.buffer.now → Finished top m work₂ output rep₂ r output' rep₃
+          → PairGiven top z table first second n output report r output' report'
+      given placed long same finished = record { of = λ st known pair few. rw (← long, same) (finished.of (z st pair.a pair.b) (reaches placed st known pair)) }

@@ -23,8 +23,10 @@ use Rattle.definitions.proofs.ReadsBack.{list_storable}
 use Rattle.definitions.proofs.Demand.{demand}
 use Rattle.answers.specs.Writing.{Gives}
 use Rattle.serving.specs.Promised.{SoundlyFolded, Promised}
-use Rattle.answers.specs.declared.Answer.{Answer}
-use Rattle.answers.specs.Answers.{answer_of}
+use Rattle.std.specs.Prelude.{Result as Returned}
+use Rattle.answers.specs.declared.Refusal.{Refusal}
+use Rattle.answers.specs.declared.Written.{Written as Counted}
+use Rattle.answers.specs.Answers.{told_of}
 
 module _ (t : Table) (ns : Nodes) (output : List ℕ) (n : ℕ) where
   abbrev Kept : Written → Type 0
@@ -68,6 +70,6 @@ module _ (table : List ℕ) (work : ℕ) (list : List ℕ) (bytes : Bytes list) 
       (either (KeptBy t ns output n) (ltb node_limit (all_nodes ns)) (other 7 (omega arith) (omega arith) (omega arith))
       (folded t ns output n (fold st ns) (list_storable t list bytes ns is-list known) (demand st ns sound)))))
 
-  pub with_promise : {a : Answer} {output' report' : List ℕ} → Gives (fold_call table work list output n) a output' report'
-      → Gives (fold_call table work list output n) a output' report' × Promised table list (answer_of a) output'
+  pub with_promise : {r : Returned Counted Refusal} {output' report' : List ℕ} → Gives (fold_call table work list output n) r output' report'
+      → Gives (fold_call table work list output n) r output' report' × Promised table list (told_of r) output'
   with_promise gives = (gives, rw (gives.numbers, gives.usage) (record { of = call_promised }))

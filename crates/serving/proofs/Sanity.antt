@@ -17,6 +17,7 @@ use Rattle.definitions.specs.Support.{supports, supports_in}
 use Rattle.definitions.specs.Place.{done, place, place_in, merge_mem, fold}
 use Rattle.definitions.specs.Calls.{fold_call}
 use Rattle.layout.specs.Places.{Placed}
+use Rattle.layout.specs.declared.Table.{Table as Lent}
 use Rattle.folding.specs.Folding.{FoldReady}
 
 -- types 0 and 1 are scalars of 4 bytes
@@ -60,14 +61,18 @@ answer : fold_call table work_limit list (replicate 12 7) 5 ≡ record {
 unfolding table three list fold_call table_of list_of read_node read_node_in fold merge_mem place place_in supports supports_in when◌then◌else◌ command_at
 answer = refl
 
-placed : (ty : ℕ) → ty < 2 → Placed table setting.table (2 ∷ 11 ∷ []) ty
-unfolding table setting when◌then◌else◌
+-- the table, with the places of its records
+lent : Lent
+lent = record { bytes = record { ref_ptr = (0, 0); now = table }; places = record { ref_ptr = (0, 0); now = 2 ∷ 11 ∷ [] } }
+
+placed : (ty : ℕ) → ty < 2 → Placed lent setting.table ty
+unfolding lent table setting when◌then◌else◌
 placed zero l = record { kept = omega arith; rest = bytes 1 0x20 ++ bytes 4 4 ++ bytes 4 0; stands = refl; admits = refl }
 placed (suc zero) l = record { kept = omega arith; rest = []; stands = refl; admits = refl }
 placed (suc (suc ty)) l = absurd (omega arith)
 
-ready : (work : List ℕ) → length work ≡ work_limit → FoldReady table (2 ∷ 11 ∷ []) list work
-unfolding table setting three list table_of list_of read_node read_node_in when◌then◌else◌ command_at
+ready : (work : List ℕ) → length work ≡ work_limit → FoldReady lent list work
+unfolding lent table setting three list table_of list_of read_node read_node_in when◌then◌else◌ command_at
 ready work area = record {
   setting = setting;
   listed = three;

@@ -1,65 +1,75 @@
--- What `sound` answers, by what was found of the table and of the stream: the refusals in their order, then what is said of the
--- usage that was loaded, which is the one that was read.
+-- What `sound` answers, by what was met: a refusal, or what is said of the usage that was loaded, which is the one that was read.
 -- Assumes nothing.
-use Prim.Native.Nat.{ℕ, ◌<◌, ◌≤◌}
-use mathlib.Core.Path.{◌≡◌}
+use Prim.Native.Nat.{ℕ}
+use mathlib.Core.Path.{◌≡◌, refl, sym, ap, fun_ext, ◌∙◌}
 use mathlib.Core.Bool.{Bool}
 use mathlib.Core.List.{List, []}
-use mathlib.Core.Option.{none as nothing}
+use mathlib.Core.Option.{Option as Maybe, none as nothing, some}
 use native.Mathlib.Omega.{arith}
-use borrow.Author.Tests.{le-leb, lt-leb}
-use lib.Dec.{leb}
 use lib.ListN.{length}
-use Rattle.definitions.specs.Limits.{node_limit, work_limit}
+use Rattle.std.specs.Prelude.{Ok, Err}
+use Rattle.definitions.specs.Usage.{Usage, nodes}
 use Rattle.definitions.specs.Stream.{memory_of}
-use Rattle.definitions.specs.Table.{table_of}
-use Rattle.definitions.specs.Place.{done}
+use Rattle.definitions.specs.Table.{Setting}
+use Rattle.definitions.specs.Place.{Result, done}
 use Rattle.definitions.specs.Sound.{sound}
-use Rattle.definitions.specs.Calls.{checked, refusal, said, sound_call}
-use Rattle.transfer_in.specs.Loading.{Loaded}
+use Rattle.definitions.specs.Calls.{given, with_table, types_in, checked, said, sound_call}
+use Rattle.stream.specs.Found.{type_bound}
+use Rattle.transfer_in.specs.Loading.{Loadable, Loaded}
 use Rattle.soundness.specs.Standing.{Standing, Tested}
+use Rattle.answers.specs.Answers.{said_of}
+use Rattle.answers.specs.declared.Refusal.{Refusal}
+use Rattle.inputs.specs.Inputs.{Good, Met}
+use Rattle.inputs.specs.declared.Nodes.{Nodes}
 use Rattle.inputs.proofs.Types.{types_in_lem}
-use Rattle.serving.proofs.Memories.{Memory}
-use Rattle.serving.proofs.Loads.{usage_at}
-use Rattle.inputs.proofs.Tables.{Begun}
-use Rattle.inputs.proofs.Refusals.{short_work, bad_table, good_table, unknown_type, many_nodes, few_nodes}
+use Rattle.inputs.proofs.Accepting.{none_told, one_body, one_refused, OneGoing, one_goes_on}
+use Rattle.serving.proofs.Memories.{Memory, told_memory, read_as}
+use Rattle.serving.proofs.Loads.{loadable, usage_at}
 
--- The refusals
+abbrev tested_as : Setting → Usage → Result Bool
+tested_as st u = done (sound u) [] 0
+
+-- the types are in the table where their bound is
+by_bound : (x : Maybe Usage) (st : Setting)
+    → (given 3 x λ u. checked (types_in st.table u) (nodes u) (tested_as st u)) ≡ one_body nodes type_bound tested_as x st
+by_bound nothing st = refl
+by_bound (some u) st = rw (types_in_lem st.table u)
 
 module _ (table : List ℕ) (work : ℕ) (s : List ℕ) where
-  pub sound_short : work < work_limit → sound_call table work s ≡ refusal 1
+  call_is : {x : Result Bool} → with_table work table (one_body nodes type_bound tested_as (memory_of s)) ≡ x → sound_call table work s ≡ said x
   unfolding sound_call
-  sound_short h = rw (short_work _ work table h)
+  call_is e = ap said (ap (with_table work table) (fun_ext (by_bound (memory_of s))) ∙ e)
 
-  pub sound_tableless : work_limit ≤ work → table_of table ≡ nothing → sound_call table work s ≡ refusal 2
-  unfolding sound_call
-  sound_tableless enough e = rw (bad_table _ work table enough e)
+  module _ {places : List ℕ} where
+    pub sound_refused : {e : Refusal} → Met table work (told_memory s) none_told places (Err e) → said_of (Err e) ≡ sound_call table work s
+    sound_refused met = sym (call_is (one_refused nodes type_bound tested_as table work (memory_of s) met))
 
-module _ {table places : List ℕ} {work k : ℕ} (t : Begun table work places k) where
-  pub sound_broken : (s : List ℕ) → memory_of s ≡ nothing → sound_call table work s ≡ refusal 3
-  unfolding sound_call
-  sound_broken s e = rw (good_table _ t, e)
+    module _ {n : Nodes} (good : Good table work (told_memory s) none_told places n) where
+      pub going : OneGoing nodes type_bound tested_as table work (memory_of s) good.begun.records.layouts n.first
+      going = one_goes_on nodes type_bound tested_as table work (memory_of s) good
 
-  module _ {s : List ℕ} {n b : ℕ} (m : Memory s n b) where
-    asked : sound_call table work s ≡ said (checked (leb b k) n (done (sound m.usage) [] 0))
-    unfolding sound_call
-    asked = rw (good_table _ t, m.is, types_in_lem t.table m.usage, t.counted, ← m.bounded, ← m.counted)
+      pub memory : Memory s n.first (type_bound going.first)
+      memory = read_as s going.first going.first_is going.first_nodes
 
-    pub sound_unknown : k < b → sound_call table work s ≡ refusal 5
-    sound_unknown h = rw (asked, unknown_type _ n _ (lt-leb b k h))
+      -- there is room for it in the work area, and it stands there
 
-    pub sound_many : b ≤ k → node_limit < n → sound_call table work s ≡ refusal 7
-    sound_many h more = rw (asked, many_nodes _ n _ (le-leb b k h) more)
+      pub sound_loadable : {area : List ℕ} → length area ≡ work → Loadable s 1 n.first area 1
+      sound_loadable long = loadable memory (omega (arith, good.few)) (omega (arith, good.begun.enough, long))
 
-    pub sound_said : b ≤ k → n ≤ node_limit → sound_call table work s ≡ said (done (sound m.usage) [] 0)
-    sound_said h few = rw (asked, few_nodes _ n _ (le-leb b k h) few)
+      module _ {area area' : List ℕ} {end : ℕ} (loaded : Loaded s 1 area 1 area' end) where
+        pub sound_standing : length area' ≡ work → Standing area' 1
+        sound_standing long =
+            let m = memory in
+            record {
+              usage = m.usage;
+              offset = 0;
+              stands = usage_at m loaded;
+              inside = omega (arith, m.counted, good.few, good.begun.enough, long);
+              few = omega (arith, m.counted, good.few);
+            }
 
--- The usage in the work area
-
-module _ {s : List ℕ} {n b : ℕ} (m : Memory s n b) {work work' : List ℕ} {end : ℕ} (loaded : Loaded s 1 work 1 work' end) where
-  pub standing : n ≤ node_limit → work_limit ≤ length work' → Standing work' 1
-  standing few enough =
-      record { usage = m.usage; offset = 0; stands = usage_at m loaded; inside = omega (arith, m.counted); few = omega (arith, m.counted) }
-
-  pub tested : {r : Bool} → Tested work' 1 r → r ≡ sound m.usage
-  tested t = t.of m.usage 0 (usage_at m loaded)
+        pub sound_said : {r : Bool} → Tested area' 1 r → said_of (Ok r) ≡ sound_call table work s
+        sound_said t =
+            let m = memory in
+            let is : m.usage ≡ going.first = cc (m.is, going.first_is) in
+            rw (t.of m.usage 0 (usage_at m loaded), is) (sym (call_is going.goes))

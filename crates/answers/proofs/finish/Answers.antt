@@ -1,37 +1,26 @@
--- `finish` meets its contract: what was reached is a refusal, or a usage that stands, and 10 and 11 are decided before anything is written.
+-- `finish` meets its contract: a usage stands, and 10 and 11 are decided before anything is written.
+use mathlib.Core.Path.{refl}
 use native.Mathlib.Omega.{arith}
-use Rattle.transfer_out.specs.Writing.{Readable}
-use Rattle.answers.proofs.Finishing.{standing, length_small, fitting, length_put, finished_refused, finished_10, finished_11, finished_written}
+use Rattle.answers.proofs.Finishing.{standing, length_small, fitting, length_put, finished_10, finished_11, finished_written}
 use Rattle.answers.proofs.finish.Goals as goal
 
-pub returns-then-r-ne0 : goal.returns-then-r-ne0
-returns-then-r-ne0 c = finished_refused c.if-r-ne0.true c.refuse.ensures
+pub written_length-usage-requires : goal.written_length-usage-requires
+written_length-usage-requires c = standing c.requires
 
-pub written_length-length-requires : goal.written_length-length-requires
-written_length-length-requires c =
-    let stands : Readable c.args.work.now c.args.r.node = standing c.if-r-ne0.false c.requires in
-    stands
+pub overflow_add-usage : goal.overflow_add-usage
+overflow_add-usage c = omega (arith, length_small (standing c.requires) c.written_length-usage.ensures)
 
-pub overflow_add-length : goal.overflow_add-length
-overflow_add-length c =
-    let stands : Readable c.args.work.now c.args.r.node = standing c.if-r-ne0.false c.requires in
-    omega (arith, length_small stands c.written_length-length.ensures)
+pub returns-then-output-usage : goal.returns-then-output-usage
+returns-then-output-usage c = finished_10 c.written_length-usage.ensures c.if-output-usage.true
 
-pub returns-then-output-length : goal.returns-then-output-length
-returns-then-output-length c = finished_10 c.if-r-ne0.false c.written_length-length.ensures c.if-output-length.true c.refuse-then-output-length.ensures
-
-pub returns-then-rep-r : goal.returns-then-rep-r
-returns-then-rep-r c = finished_11 c.if-r-ne0.false c.written_length-length.ensures c.if-output-length.false c.if-rep-r.true c.refuse-then-rep-r.ensures
+pub returns-then-report-length : goal.returns-then-report-length
+returns-then-report-length c = finished_11 c.written_length-usage.ensures c.if-output-usage.false c.if-report-length.true
 
 pub write-requires : goal.write-requires
-write-requires c =
-    let stands : Readable c.args.work.now c.args.r.node = standing c.if-r-ne0.false c.requires in
-    fitting stands c.written_length-length.ensures c.args.top c.args.output.now c.if-output-length.false
+write-requires c = fitting (standing c.requires) c.written_length-usage.ensures c.args.top c.args.output.now c.if-output-usage.false
 
 pub shape_of-output : goal.shape_of-output
-shape_of-output c =
-    let stands : Readable c.args.work.now c.args.r.node = standing c.if-r-ne0.false c.requires in
-    length_put stands c.args.top c.args.output.now c.write.ensures
+shape_of-output c = length_put (standing c.requires) c.args.top c.args.output.now c.write.ensures
 
 pub returns : goal.returns
-returns c = finished_written c.if-r-ne0.false c.written_length-length.ensures c.if-output-length.false c.if-rep-r.false c.answered.ensures c.write.ensures c.zero.ensures
+returns c = finished_written c.written_length-usage.ensures c.if-output-usage.false c.if-report-length.false c.write.ensures c.zero.ensures refl

@@ -1,26 +1,38 @@
 -- `fold_next` meets its contract: the node is loaded behind what there is so far, and the two are merged. A 38 stays where the
 -- position says that something was reported behind it.
-use Rattle.std.proofs.Common.{arith}
-use Rattle.folding.proofs.Nexts.{index_back, index_kept, next_node_ready, next_free, next_merges, next_near, next_folded}
+use Rattle.std.proofs.Common.{refl, arith}
+use Rattle.std.proofs.lemmas.Result.{err_from_is_err_and}
+use Rattle.folding.proofs.Nexts.{index_back, index_kept, next_node_ready, next_free, next_merges, next_near, next_refused, next_folded}
 use Rattle.folding.proofs.fold_next.Goals as goal
+use Rattle.folding.proofs.fold_next.Goals.{then-report-behind, else-report-behind}
 
 pub load_node-next-requires : goal.load_node-next-requires
 load_node-next-requires c = next_node_ready c.requires
 
-pub merge_mem-r-requires : goal.merge_mem-r-requires
-merge_mem-r-requires c =
-    record { ready = next_merges c.requires c.load_node-next.auto.work c.load_node-next.ensures; near = next_near c.requires c.load_node-next.auto.work c.load_node-next.ensures _ (omega (arith, c.requires.near, c.of_node-at.ensures.place)) }
+pub merge_mem-requires : goal.merge_mem-requires
+merge_mem-requires c = record {
+  ready = next_merges c.requires c.load_node-next.auto.work c.load_node-next.ensures;
+  near = next_near c.requires c.load_node-next.auto.work c.load_node-next.ensures _ (omega (arith, c.requires.near, c.of_node.ensures.place));
+}
+
+pub returns-in_err-r : goal.returns-in_err-r
+returns-in_err-r c =
+    let p = err_from_is_err_and c.from_residual.result c.from_residual.ensures.1 in
+    rw (p.1, p.2) (next_refused c.requires c.load_node-next.auto.work c.load_node-next.ensures c.args.i c.in_err-r.ensures)
 
 pub overflow_add-result : goal.overflow_add-result
-overflow_add-result c =
-    omega (arith, next_free c.requires c.load_node-next.auto.work c.load_node-next.ensures)
+overflow_add-result c = omega (arith, next_free c.requires c.load_node-next.auto.work c.load_node-next.ensures)
 
-pub returns-then-r-at : goal.returns-then-r-at
-returns-then-r-at c =
-    next_folded c.requires c.load_node-next.auto.work c.load_node-next.ensures c.args.i c.merge_mem-r.result c.merge_mem-r.ensures
-    c.wrapping_add_u32.ensures.value (index_back c.args.i c.requires.near c.of_node-at.ensures c.if-r-at.true)
-
-pub returns-else-r-at : goal.returns-else-r-at
-returns-else-r-at c =
-    next_folded c.requires c.load_node-next.auto.work c.load_node-next.ensures c.args.i c.merge_mem-r.result c.merge_mem-r.ensures
-    c.wrapping_add_u32.ensures.value (index_kept c.args.i c.requires.near c.of_node-at.ensures c.if-r-at.false)
+pub returns : goal.returns
+returns c =
+    let was = c.load_node-next.auto.work in
+    let loaded = c.load_node-next.ensures in
+    let i = c.args.i in
+    elim c.if-report-behind.branch [
+      | then-report-behind w ↦
+          rw w.report-is
+          (next_folded c.requires was loaded i c.in_ok-r.ensures refl (index_back i c.requires.near c.of_node.ensures w.if-report-behind.true))
+      | else-report-behind w ↦
+          rw w.report-is
+          (next_folded c.requires was loaded i c.in_ok-r.ensures refl (index_kept i c.requires.near c.of_node.ensures w.if-report-behind.false))
+    ]

@@ -3,7 +3,7 @@ use mathlib.Core.Path.{ap}
 use native.Mathlib.Omega.{arith}
 use Rattle.definitions.specs.Command.{Command}
 use Rattle.definitions.proofs.Written.{Bytes}
-use Rattle.inputs.proofs.FirstBytes.{some_bytes, opaque_bytes, other_bytes, other_kind, other_type, same_opaque}
+use Rattle.inputs.proofs.FirstBytes.{some_bytes, opaque_bytes, other_bytes, other_kind, told_by}
 use Rattle.inputs.proofs.conflicts.Goals as goal
 
 pub bounds-first-0 : goal.bounds-first-0
@@ -33,16 +33,10 @@ number-requires-2 c =
     let second-bytes : Bytes c.args.second.now = λ k. (c.type_inv.second k).fits in
     other_bytes c.args.first.now c.args.second.now first-bytes second-bytes (ap (λ (r : Command). r.argument) c.of-width.ensures) c.requires (omega (arith, c.if-first-second.false))
 
-pub returns-then-number : goal.returns-then-number
-returns-then-number c =
-    let first-bytes : Bytes c.args.first.now = λ k. (c.type_inv.first k).fits in
-    let second-bytes : Bytes c.args.second.now = λ k. (c.type_inv.second k).fits in
-    let a = c.args in
-    other_type a.first.now a.second.now first-bytes second-bytes (ap (λ (r : Command). r.argument) c.of-width.ensures) (λ same. omega (arith, c.if-number.true, c.number.ensures, c.number-2.ensures))
-
 pub returns : goal.returns
 returns c =
     let first-bytes : Bytes c.args.first.now = λ k. (c.type_inv.first k).fits in
     let second-bytes : Bytes c.args.second.now = λ k. (c.type_inv.second k).fits in
     let a = c.args in
-    same_opaque a.first.now a.second.now first-bytes second-bytes (ap (λ (r : Command). r.argument) c.of-width.ensures) (omega (arith, c.if-first-second.false)) (omega (arith, c.if-number.false, c.number.ensures, c.number-2.ensures))
+    rw (c.number.ensures, c.number-2.ensures)
+    (told_by a.first.now a.second.now first-bytes second-bytes (ap (λ (r : Command). r.argument) c.of-width.ensures) (omega (arith, c.if-first-second.false)))

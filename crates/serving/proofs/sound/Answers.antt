@@ -1,89 +1,33 @@
 -- `sound` meets its contract: the refusals come in their order, and what is tested is the usage that was read.
-use mathlib.Core.Path.{◌∙◌}
-use native.Mathlib.Omega.{arith}
-use borrow.Author.Tests.{not-true, not-false}
+use mathlib.Core.Path.{refl, ◌∙◌}
 use lib.ListN.{length}
-use Rattle.serving.proofs.Memories.{Memory, found, lost}
-use Rattle.inputs.proofs.Tables.{Begun, begin}
-use Rattle.serving.proofs.Loads.{loadable}
-use Rattle.serving.proofs.Sounding.{sound_short, sound_tableless, sound_broken, sound_unknown, sound_many, sound_said, standing, tested}
+use Rattle.std.proofs.lemmas.Result.{err_from_is_err_and}
+use Rattle.inputs.specs.Inputs.{Good}
+use Rattle.inputs.proofs.Accepting.{none_told}
+use Rattle.serving.proofs.Memories.{told_memory}
+use Rattle.serving.proofs.Lent.{met_lent}
+use Rattle.serving.proofs.Sounding.{sound_refused, sound_loadable, sound_standing, sound_said}
 use Rattle.serving.proofs.sound.Goals as goal
+use Rattle.serving.proofs.sound.Goals.{In_ok-nodes}
 
-pub returns-then-work-lt-WORK : goal.returns-then-work-lt-WORK
-returns-then-work-lt-WORK c =
-    let a = c.args in
-    rw (sound_short a.table.now (length a.work.now) a.s.now c.if-work-lt-WORK.true) c.refusal.ensures
+good : (c : In_ok-nodes) → Good c.args.table.now (length c.args.work.now) (told_memory c.args.s.now) none_told c.accept.new.places c.in_ok-nodes.nodes
+good c = (met_lent c.memory-found.ensures refl c.memory-found.auto.window c.in_ok-nodes.ensures).good
 
-pub shape_of-places-then-not-records : goal.shape_of-places-then-not-records
-shape_of-places-then-not-records c = c.accept-records.auto.places
-
-pub returns-then-not-records : goal.returns-then-not-records
-returns-then-not-records c =
-    let a = c.args in
-    let accept = c.accept-records in
-    rw (sound_tableless a.table.now (length a.work.now) a.s.now c.if-work-lt-WORK.false (accept.ensures.refused (not-true accept.result.ok c.if-not-records.true)))
-    c.refusal-then-not-records.ensures
-
-pub shape_of-work-in_default : goal.shape_of-work-in_default
-shape_of-work-in_default c = c.memory.auto.window
-
-pub shape_of-places-in_default : goal.shape_of-places-in_default
-shape_of-places-in_default c = c.accept-records.auto.places
-
-pub returns-in_default : goal.returns-in_default
-returns-in_default c =
-    let begun : (let a = c.args in Begun a.table.now (length a.work.now) c.accept-records.new.places c.accept-records.result.count) = let accept = c.accept-records in begin c.if-work-lt-WORK.false accept.ensures (not-false accept.result.ok c.if-not-records.false) in
-    let s = c.args.s.now in
-    rw (sound_broken begun s (lost s (rw c.in_default.is at c.memory.ensures))) c.refusal-in_default.ensures
-
-pub shape_of-work-then-records-types : goal.shape_of-work-then-records-types
-shape_of-work-then-records-types c = c.memory.auto.window
-
-pub shape_of-places-then-records-types : goal.shape_of-places-then-records-types
-shape_of-places-then-records-types c = c.accept-records.auto.places
-
-pub returns-then-records-types : goal.returns-then-records-types
-returns-then-records-types c =
-    let begun : (let a = c.args in Begun a.table.now (length a.work.now) c.accept-records.new.places c.accept-records.result.count) = let accept = c.accept-records in begin c.if-work-lt-WORK.false accept.ensures (not-false accept.result.ok c.if-not-records.false) in
-    let memory : (Memory c.args.s.now c.in-Stream.nodes c.in-Stream.types) = found _ (rw c.in-Stream.is at c.memory.ensures) in
-    rw (sound_unknown begun memory c.if-records-types.true) c.refusal-then-records-types.ensures
-
-pub shape_of-work-then-nodes-gt-NODES : goal.shape_of-work-then-nodes-gt-NODES
-shape_of-work-then-nodes-gt-NODES c = c.memory.auto.window
-
-pub shape_of-places-then-nodes-gt-NODES : goal.shape_of-places-then-nodes-gt-NODES
-shape_of-places-then-nodes-gt-NODES c = c.accept-records.auto.places
-
-pub returns-then-nodes-gt-NODES : goal.returns-then-nodes-gt-NODES
-returns-then-nodes-gt-NODES c =
-    let begun : (let a = c.args in Begun a.table.now (length a.work.now) c.accept-records.new.places c.accept-records.result.count) = let accept = c.accept-records in begin c.if-work-lt-WORK.false accept.ensures (not-false accept.result.ok c.if-not-records.false) in
-    let memory : (Memory c.args.s.now c.in-Stream.nodes c.in-Stream.types) = found _ (rw c.in-Stream.is at c.memory.ensures) in
-    rw (sound_many begun memory c.if-records-types.false c.if-nodes-gt-NODES.true) c.refusal-then-nodes-gt-NODES.ensures
+pub returns-in_err-nodes : goal.returns-in_err-nodes
+returns-in_err-nodes c =
+    let p = err_from_is_err_and c.from_residual.result c.from_residual.ensures.1 in
+    let met = met_lent c.memory-found.ensures refl c.memory-found.auto.window c.in_err-nodes.ensures in
+    rw (p.1, p.2) (sound_refused c.args.table.now (length c.args.work.now) c.args.s.now met)
 
 pub load-requires : goal.load-requires
 load-requires c =
-    let begun : (let a = c.args in Begun a.table.now (length a.work.now) c.accept-records.new.places c.accept-records.result.count) = let accept = c.accept-records in begin c.if-work-lt-WORK.false accept.ensures (not-false accept.result.ok c.if-not-records.false) in
-    let memory : (Memory c.args.s.now c.in-Stream.nodes c.in-Stream.types) = found _ (rw c.in-Stream.is at c.memory.ensures) in
-    loadable memory c.if-nodes-gt-NODES.false (rw c.memory.auto.window begun.enough)
+    sound_loadable c.args.table.now (length c.args.work.now) c.args.s.now (good (goal.at.load-requires c).In_ok-nodes) c.memory-found.auto.window
 
 pub sound-requires : goal.sound-requires
 sound-requires c =
-    let memory : (Memory c.args.s.now c.in-Stream.nodes c.in-Stream.types) = found _ (rw c.in-Stream.is at c.memory.ensures) in
-    standing memory c.load.ensures c.if-nodes-gt-NODES.false (omega arith)
-
-pub shape_of-work : goal.shape_of-work
-shape_of-work c = c.load.auto.work ∙ c.memory.auto.window
-
-pub shape_of-places : goal.shape_of-places
-shape_of-places c = c.accept-records.auto.places
+    sound_standing c.args.table.now (length c.args.work.now) c.args.s.now (good (goal.at.sound-requires c).In_ok-nodes) c.load.ensures
+    (c.load.auto.work ∙ c.memory-found.auto.window)
 
 pub returns : goal.returns
 returns c =
-    let begun : (let a = c.args in Begun a.table.now (length a.work.now) c.accept-records.new.places c.accept-records.result.count) = let accept = c.accept-records in begin c.if-work-lt-WORK.false accept.ensures (not-false accept.result.ok c.if-not-records.false) in
-    let memory : (Memory c.args.s.now c.in-Stream.nodes c.in-Stream.types) = found _ (rw c.in-Stream.is at c.memory.ensures) in
-    let m = memory in
-    rw (
-      sound_said begun m c.if-records-types.false c.if-nodes-gt-NODES.false,
-      ← tested m c.load.ensures c.sound.ensures,
-    )
-    c.said.ensures
+    sound_said c.args.table.now (length c.args.work.now) c.args.s.now (good (goal.at.returns c).In_ok-nodes) c.load.ensures c.sound.ensures

@@ -1,0 +1,72 @@
+-- `merged` meets its contract: the refusals come in their order; two Buffers or two Memories are merged as the usages that were read, and
+-- of other tops the first stays.
+use mathlib.Core.Path.{refl, ◌∙◌}
+use lib.ListN.{length}
+use Rattle.std.proofs.lemmas.Result.{err_from_is_err_and}
+use Rattle.definitions.proofs.Written.{Bytes}
+use Rattle.layout.proofs.Uses.{holds_whole}
+use Rattle.inputs.specs.Inputs.{Good}
+use Rattle.serving.proofs.Pairs.{pair_ready}
+use Rattle.serving.proofs.Lent.{met_lent}
+use Rattle.serving.proofs.Merging.{told_top, merge_refused, first_some, second_some, opaque_first, merge_opaque, merge_unlike, merge_alike, merge_gives}
+use Rattle.serving.proofs.merged.Goals as goal
+use Rattle.serving.proofs.merged.Goals.{In_ok-nodes}
+
+good : (c : In_ok-nodes)
+    → Good c.args.table.now (length c.args.work.now) (told_top c.args.first.now) (told_top c.args.second.now) c.accept.new.places c.in_ok-nodes.nodes
+good c = (met_lent c.top-a.ensures c.top-b.ensures (c.top-b.auto.window ∙ c.top-a.auto.window) c.in_ok-nodes.ensures).good
+
+pub returns-in_err-nodes : goal.returns-in_err-nodes
+returns-in_err-nodes c =
+    let p = err_from_is_err_and c.from_residual.result c.from_residual.ensures.1 in
+    let a = c.args in
+    let met = met_lent c.top-a.ensures c.top-b.ensures (c.top-b.auto.window ∙ c.top-a.auto.window) c.in_err-nodes.ensures in
+    rw (p.1, p.2) (merge_refused a.table.now (length a.work.now) a.first.now a.second.now met a.output.now (length a.rep.now))
+
+pub bounds-first-0 : goal.bounds-first-0
+bounds-first-0 c =
+    let a = c.args in
+    first_some a.table.now (length a.work.now) a.first.now a.second.now (good (goal.at.bounds-first-0 c).In_ok-nodes)
+    (λ k. (c.type_inv.first k).fits) (λ k. (c.type_inv.second k).fits)
+
+pub conflicts-requires : goal.conflicts-requires
+conflicts-requires c =
+    let a = c.args in
+    opaque_first a.table.now (length a.work.now) a.first.now a.second.now (good (goal.at.conflicts-requires c).In_ok-nodes)
+    (λ k. (c.type_inv.first k).fits) (λ k. (c.type_inv.second k).fits) c.if-top-eq-OPAQUE.true
+
+pub returns-then-top-eq-OPAQUE : goal.returns-then-top-eq-OPAQUE
+returns-then-top-eq-OPAQUE c =
+    let a = c.args in
+    merge_opaque a.table.now (length a.work.now) a.first.now a.second.now (good (goal.at.returns-then-top-eq-OPAQUE c).In_ok-nodes)
+    (λ k. (c.type_inv.first k).fits) (λ k. (c.type_inv.second k).fits) c.if-top-eq-OPAQUE.true c.conflicts.ensures a.output.now (length a.rep.now) c.keep.ensures
+
+pub bounds-second-0 : goal.bounds-second-0
+bounds-second-0 c =
+    let a = c.args in
+    second_some a.table.now (length a.work.now) a.first.now a.second.now (good (goal.at.bounds-second-0 c).In_ok-nodes)
+    (λ k. (c.type_inv.first k).fits) (λ k. (c.type_inv.second k).fits)
+
+pub returns-then-top-second : goal.returns-then-top-second
+returns-then-top-second c =
+    let a = c.args in
+    merge_unlike a.table.now (length a.work.now) a.first.now a.second.now (good (goal.at.returns-then-top-second c).In_ok-nodes)
+    (λ k. (c.type_inv.first k).fits) (λ k. (c.type_inv.second k).fits) c.if-top-second.true a.output.now (length a.rep.now) c.keep-then-top-second.ensures
+
+pub merge_loaded-requires : goal.merge_loaded-requires
+merge_loaded-requires c =
+    let a = c.args in
+    let is = good (goal.at.merge_loaded-requires c).In_ok-nodes in
+    let merged =
+    merge_alike a.table.now (length a.work.now) a.first.now a.second.now is (λ k. (c.type_inv.first k).fits) (λ k. (c.type_inv.second k).fits)
+    c.if-top-eq-OPAQUE.false c.if-top-second.false in
+    pair_ready is (holds_whole refl refl) merged.pair c.area.ensures c.top-b.new.window (c.top-b.auto.window ∙ c.top-a.auto.window)
+
+pub returns : goal.returns
+returns c =
+    let a = c.args in
+    let is = good (goal.at.returns c).In_ok-nodes in
+    let first : Bytes a.first.now = λ k. (c.type_inv.first k).fits in
+    let second : Bytes a.second.now = λ k. (c.type_inv.second k).fits in
+    let merged = merge_alike a.table.now (length a.work.now) a.first.now a.second.now is first second c.if-top-eq-OPAQUE.false c.if-top-second.false in
+    merge_gives a.table.now (length a.work.now) a.first.now a.second.now is first second merged (holds_whole refl refl) a.output.now a.rep.now c.merge_loaded.ensures
