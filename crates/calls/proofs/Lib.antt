@@ -1,3 +1,2 @@
 pub mod Roots
 pub mod Receivers
-pub mod Lending

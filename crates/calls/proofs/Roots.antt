@@ -14,7 +14,7 @@ use Rattle.definitions.proofs.Reading.{Reads, stops, gives, reads_any, reads_the
 use Rattle.stream.specs.Head.{head, PartAt}
 use Rattle.stream.proofs.Then.{never}
 use Rattle.stream.proofs.Heads.{read_head, head_own}
-use Rattle.qptr.specs.Values.{size_of}
+use Rattle.qptr.specs.Values.{command_of, size_of}
 use Rattle.qptr.specs.declared.Node.{Node}
 use Rattle.calls.specs.Roots.{RootOf}
 use Rattle.serving.proofs.Memories.{Memory}
@@ -53,7 +53,7 @@ module _ {bs : List ℕ} {n t : ℕ} (m : Memory bs n t) where
         counted = m.counted;
         own =
             reads_is
-            (body_own read_node node.command (size_of node.size) node.argument (drop end bs) (head_own _ _ _ part.reads).bare)
+            (body_own read_node (command_of node.kind) (size_of node.size) node.argument (drop end bs) (head_own _ _ _ part.reads).bare)
             (rw (read_head (drop 1 bs), part.reads) at m.reads);
       }
 

@@ -1,13 +1,12 @@
 -- What is told of a Memory stream whose root alone matters.
 -- Assumes nothing.
-use Rattle.std.specs.Prelude.{ℕ, ◌≡◌, List}
+use Rattle.std.specs.Prelude.{ℕ, ◌≡◌, List, Option, Some, None}
 use Rattle.std.proofs.Math.Option.{none as nothing, some}
 use Rattle.definitions.specs.Usage.{Usage, nodes}
 use Rattle.definitions.specs.Stream.{memory_of}
 use Rattle.qptr.specs.Values.{Stands}
 use Rattle.qptr.specs.declared.Node.{Node}
 use Rattle.calls.specs.declared.Root.{Root}
-use Rattle.calls.specs.declared.Root.TheVariants.{Memory, Broken}
 
 -- the bytes are a usage of n nodes, with this own part
 pub record RootOf (bs : List ℕ) (n : ℕ) (node : Node) : Type 0 where
@@ -16,6 +15,6 @@ pub record RootOf (bs : List ℕ) (n : ℕ) (node : Node) : Type 0 where
   pub counted : n ≡ nodes usage
   pub own : Stands node usage
 
-abbrev pub Rooted : List ℕ → Root → Type 0
-Rooted bs (Memory n node) = RootOf bs n node
-Rooted bs Broken = memory_of bs ≡ nothing
+abbrev pub Rooted : List ℕ → Option Root → Type 0
+Rooted bs (Some root) = RootOf bs root.nodes root.node
+Rooted bs None = memory_of bs ≡ nothing

@@ -1,83 +1,71 @@
-// The calls: who receives; and those with a table, which lend places for its records. Places are cleared first, so a table that says
-// it has few records gets few.
+// The calls: who receives; and those with a table, which lend places for its records.
 #![tactic(auto)]
 
 ghost use Rattle.std.specs.Prelude.{◌≡◌, length};
 ghost use Rattle.definitions.specs.Calls.{receiver_of, receiver_call, sound_call, supports_call, place_call, merge_call, fold_call};
-ghost use Rattle.answers.specs.Answers.{answer_of};
+ghost use Rattle.layout.specs.Places.{Room};
+ghost use Rattle.answers.specs.Answers.{said_of, told_of};
 ghost use Rattle.answers.specs.Writing.{Gives};
 ghost use Rattle.serving.specs.Promised.{Promised};
 ghost use Rattle.calls.specs.Received.{first_of, answered};
 ghost use Rattle.calls.specs.Roots.{Rooted};
 
-use answers::Answer;
+use answers::{Refusal, Written};
 use inputs::NODES;
 use layout::{FEW, RECORDS};
-use qptr::Node;
-use stream::{Found, HeaderAt};
+use qptr::{Node, first_receives};
 
 // The bytes from which on a stream is not short: a short one has few maps inside of each other, so a small window does.
 const SHORT: usize = 1024;
 
-// Which of two streams receives.
-#[derive(Clone, Copy)]
+// Which of two streams receives the other.
+#[derive(Clone, Copy, PartialEq, Eq)]
 pub enum Received {
-    Nobody,
     First,
     Second,
 }
 
-// What the receiver rule asks of a Memory stream.
+// What the receiver rule asks of a Memory stream: its nodes and its root's own part.
 #[derive(Clone, Copy)]
-enum Root {
-    Memory { nodes: usize, node: Node },
-    Broken,
+struct Root {
+    nodes: usize,
+    node: Node,
 }
 
-// A Memory stream's nodes and its root's own part. What the window holds does not matter.
-fn root_of(s: &[u8], window: &mut [u8]) -> Root
+// The same of a stream, if it is a Memory. What the window holds does not matter.
+fn root_of(s: &[u8], window: &mut [u8]) -> Option<Root>
     ensures { Rooted s.now result }
 {
-    let Found::Stream { nodes, types: _ } = stream::memory(s, window) else {
-        return Root::Broken;
-    };
-    let HeaderAt::Header { node, end: _ } = stream::header(s, 1) else {
-        return Root::Broken;
-    };
-    Root::Memory { nodes, node }
+    let found = stream::memory(s, window)?;
+    let header = stream::header(s, 1)?;
+    Some(Root {
+        nodes: found.nodes,
+        node: header.node,
+    })
 }
 
 // Which of two Memory streams receives the other; nobody where one is broken or both have too many nodes.
-fn who_receives(first: &[u8], second: &[u8], window: &mut [u8]) -> Received
+fn who_receives(first: &[u8], second: &[u8], window: &mut [u8]) -> Option<Received>
     ensures { first_of result ≡ answered (receiver_of first.now second.now) }
 {
-    let Root::Memory { nodes: n, node: a } = root_of(first, window) else {
-        return Received::Nobody;
-    };
-    let Root::Memory { nodes: m, node: b } = root_of(second, window) else {
-        return Received::Nobody;
-    };
-    if NODES < n {
-        return Received::Nobody;
+    let a = root_of(first, window)?;
+    let b = root_of(second, window)?;
+    if NODES < a.nodes.saturating_add(b.nodes) {
+        return None;
     }
-    if NODES - n < m {
-        return Received::Nobody;
+    if first_receives(a.node, b.node) {
+        return Some(Received::First);
     }
-    if qptr::first_receives(a, b) {
-        return Received::First;
-    }
-    Received::Second
+    Some(Received::Second)
 }
 
 // The same. The window has 16 levels where both streams are short, else 1,024, which take longer to clear.
-pub fn receiving(first: &[u8], second: &[u8]) -> Received
+pub fn receiving(first: &[u8], second: &[u8]) -> Option<Received>
     ensures { first_of result ≡ answered (receiver_of first.now second.now) }
 {
-    if first.len() < SHORT {
-        if second.len() < SHORT {
-            let mut window = [0u8; 96];
-            return who_receives(first, second, &mut window);
-        }
+    if first.len() < SHORT && second.len() < SHORT {
+        let mut window = [0u8; 96];
+        return who_receives(first, second, &mut window);
     }
     let mut window = [0u8; 6144];
     who_receives(first, second, &mut window)
@@ -88,34 +76,46 @@ pub fn receiver<'a>(first: &'a [u8], second: &'a [u8]) -> &'a [u8]
     ensures { result.now ≡ receiver_call first.now second.now }
 {
     match receiving(first, second) {
-        Received::Nobody => &first[0..0],
-        Received::First => first,
-        Received::Second => second,
+        None => &first[0..0],
+        Some(Received::First) => first,
+        Some(Received::Second) => second,
     }
+}
+
+// What a call gives that is lent places for a table's records. Places are cleared first, so a table that says it has few records gets
+// few.
+fn lent<R, F: FnMut(&mut [u32]) -> R>(table: &[u8], call: &mut F) -> R
+    requires { (places : _) → Room table.now places.now → F.pre call.old places }
+    ensures { (places : _) × (places' : _) × Room table.now places.now × F.step call.old places result places' call.new }
+{
+    if layout::has_few(table) {
+        let mut places = [0u32; FEW];
+        return call(&mut places);
+    }
+    let mut places = [0u32; RECORDS];
+    call(&mut places)
 }
 
 // Is the usage of a Memory stream sound? It is loaded into the work area, whose contents do not matter.
-pub fn sound(table: &[u8], work: &mut [u8], s: &[u8]) -> Answer
-    ensures { answer_of result ≡ sound_call table.now (length work.old) s.now }
+pub fn sound(table: &[u8], work: &mut [u8], s: &[u8]) -> Result<bool, Refusal>
+    ensures { said_of result ≡ sound_call table.now (length work.old) s.now }
 {
-    if layout::has_few(table) {
-        let mut places = [0u32; FEW];
-        return serving::sound(table, work, &mut places, s);
-    }
-    let mut places = [0u32; RECORDS];
-    serving::sound(table, work, &mut places, s)
+    let mut call = |places: &mut [u32]| serving::sound(table, work, places, s);
+    lent(table, &mut call)
 }
 
 // Does a type, at an offset, support the usage of a Memory stream? It is loaded as for `sound`.
-pub fn supports(table: &[u8], work: &mut [u8], ty: u32, offset: u32, s: &[u8]) -> Answer
-    ensures { answer_of result ≡ supports_call table.now (length work.old) ty offset s.now }
+pub fn supports(
+    table: &[u8],
+    work: &mut [u8],
+    ty: u32,
+    offset: u32,
+    s: &[u8],
+) -> Result<bool, Refusal>
+    ensures { said_of result ≡ supports_call table.now (length work.old) ty offset s.now }
 {
-    if layout::has_few(table) {
-        let mut places = [0u32; FEW];
-        return serving::supports(table, work, &mut places, ty, offset, s);
-    }
-    let mut places = [0u32; RECORDS];
-    serving::supports(table, work, &mut places, ty, offset, s)
+    let mut call = |places: &mut [u32]| serving::supports(table, work, places, ty, offset, s);
+    lent(table, &mut call)
 }
 
 // The second Memory is put into the first at an offset.
@@ -127,15 +127,13 @@ pub fn place(
     second: &[u8],
     output: &mut [u8],
     rep: &mut [u8],
-) -> Answer
+) -> Result<Written, Refusal>
     ensures { Gives (place_call table.now (length work.old) first.now offset second.now output.old (length rep.old)) result output.new rep.new }
 {
-    if layout::has_few(table) {
-        let mut places = [0u32; FEW];
-        return serving::place(table, work, &mut places, first, offset, second, output, rep);
-    }
-    let mut places = [0u32; RECORDS];
-    serving::place(table, work, &mut places, first, offset, second, output, rep)
+    let mut call = |places: &mut [u32]| serving::place(
+        table, work, places, first, offset, second, output, rep,
+    );
+    lent(table, &mut call)
 }
 
 // Two Buffers or two Memories are merged; of others the first stays.
@@ -146,26 +144,26 @@ pub fn merge(
     second: &[u8],
     output: &mut [u8],
     rep: &mut [u8],
-) -> Answer
+) -> Result<Written, Refusal>
     ensures { Gives (merge_call table.now (length work.old) first.now second.now output.old (length rep.old)) result output.new rep.new }
 {
-    if layout::has_few(table) {
-        let mut places = [0u32; FEW];
-        return serving::merge(table, work, &mut places, first, second, output, rep);
-    }
-    let mut places = [0u32; RECORDS];
-    serving::merge(table, work, &mut places, first, second, output, rep)
+    let mut call = |places: &mut [u32]| serving::merge(
+        table, work, places, first, second, output, rep,
+    );
+    lent(table, &mut call)
 }
 
 // The nodes of a list, merged one after the other.
-pub fn fold(table: &[u8], work: &mut [u8], list: &[u8], output: &mut [u8], rep: &mut [u8]) -> Answer
+pub fn fold(
+    table: &[u8],
+    work: &mut [u8],
+    list: &[u8],
+    output: &mut [u8],
+    rep: &mut [u8],
+) -> Result<Written, Refusal>
     ensures gives { Gives (fold_call table.now (length work.old) list.now output.old (length rep.old)) result output.new rep.new }
-    ensures promised { Promised table.now list.now (answer_of result) output.new }
+    ensures promised { Promised table.now list.now (told_of result) output.new }
 {
-    if layout::has_few(table) {
-        let mut places = [0u32; FEW];
-        return serving::fold(table, work, &mut places, list, output, rep);
-    }
-    let mut places = [0u32; RECORDS];
-    serving::fold(table, work, &mut places, list, output, rep)
+    let mut call = |places: &mut [u32]| serving::fold(table, work, places, list, output, rep);
+    lent(table, &mut call)
 }

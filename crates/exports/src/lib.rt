@@ -10,13 +10,13 @@ ghost use Rattle.exports.specs.Numbers.{number_of, bit, numbers_of, Leaves, Leav
 use answers::Answer;
 use calls::Received;
 
-fn number(r: Received) -> u32
+fn number(r: Option<Received>) -> u32
     ensures { result ≡ number_of (first_of r) }
 {
     match r {
-        Received::Nobody => 0,
-        Received::First => 1,
-        Received::Second => 2,
+        None => 0,
+        Some(Received::First) => 1,
+        Some(Received::Second) => 2,
     }
 }
 
@@ -27,21 +27,15 @@ pub fn qptr_receiver(first: &[u8], second: &[u8]) -> u32
     number(calls::receiving(first, second))
 }
 
-fn flag(yes: bool) -> u64
-    ensures { result ≡ bit yes }
-{
-    if yes { 1 } else { 0 }
-}
-
 fn numbers(a: Answer) -> [u64; 5]
     ensures { result ≡ numbers_of (answer_of a) }
 {
     [
-        a.number as u64,
-        flag(a.yes),
+        u64::from(a.number),
+        u64::from(a.yes),
         a.usage as u64,
         a.report as u64,
-        a.pairings as u64,
+        u64::from(a.pairings),
     ]
 }
 
@@ -49,7 +43,7 @@ fn numbers(a: Answer) -> [u64; 5]
 pub fn qptr_sound(table: &[u8], work: &mut [u8], stream: &[u8], answer: &mut [u64; 5])
     ensures { answer.new ≡ numbers_of (sound_call table.now (length work.old) stream.now) }
 {
-    *answer = numbers(calls::sound(table, work, stream));
+    *answer = numbers(Answer::from(calls::sound(table, work, stream)));
 }
 
 // The answer as of `qptr_sound`.
@@ -63,7 +57,7 @@ pub fn qptr_supports(
 )
     ensures { answer.new ≡ numbers_of (supports_call table.now (length work.old) ty offset stream.now) }
 {
-    *answer = numbers(calls::supports(table, work, ty, offset, stream));
+    *answer = numbers(Answer::from(calls::supports(table, work, ty, offset, stream)));
 }
 
 // The answer, and both buffers as they are left; so too of the next two.
@@ -79,7 +73,9 @@ pub fn qptr_place(
 )
     ensures { Leaves (place_call table.now (length work.old) first.now offset second.now output.old (length report.old)) answer.new output.new report.new }
 {
-    *answer = numbers(calls::place(table, work, first, offset, second, output, report));
+    *answer = numbers(Answer::from(calls::place(
+        table, work, first, offset, second, output, report,
+    )));
 }
 
 // Two tops.
@@ -94,7 +90,7 @@ pub fn qptr_merge(
 )
     ensures { Leaves (merge_call table.now (length work.old) first.now second.now output.old (length report.old)) answer.new output.new report.new }
 {
-    *answer = numbers(calls::merge(table, work, first, second, output, report));
+    *answer = numbers(Answer::from(calls::merge(table, work, first, second, output, report)));
 }
 
 // A list; with what is promised of sound nodes.
@@ -109,5 +105,5 @@ pub fn qptr_fold(
     ensures leaves { Leaves (fold_call table.now (length work.old) list.now output.old (length report.old)) answer.new output.new report.new }
     ensures leaves_promised { LeavesPromised table.now list.now answer.new output.new }
 {
-    *answer = numbers(calls::fold(table, work, list, output, report));
+    *answer = numbers(Answer::from(calls::fold(table, work, list, output, report)));
 }

@@ -1,4 +1,5 @@
-// The calls of `exports` for C and Rust, under the same names and with the same clauses. A slice is passed as a pointer and a length.
+// The calls of `exports` for C and Rust, under the same names and with the same clauses: what C links is a crate of its own, since a crate is
+// a library or a static library. A slice is passed as a pointer and a length.
 #![tactic(auto)]
 
 ghost use Rattle.std.specs.Prelude.{◌≡◌, length};

@@ -1,4 +1,5 @@
-// The call of `receiver_part` for C, under the same name and with the same clause.
+// The call of `receiver_part` for C, under the same name and with the same clause: what C links is a crate of its own, since a crate is a
+// library or a static library.
 #![tactic(auto)]
 
 ghost use Rattle.std.specs.Prelude.{◌≡◌};

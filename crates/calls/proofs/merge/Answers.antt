@@ -1,7 +1,7 @@
--- `merge` meets its contract: the places that it lends have room, and the served call gives what it gives.
-use borrow.Author.Rules.{rules}
-use Rattle.calls.proofs.Lending.{few_lent}
+-- `merge` meets its contract: with the places that it is lent, it is the call of `serving`. The check finds this alone; written out, it
+-- also ends with a message where the code is wrong.
+use Rattle.std.proofs.Common.{of_calls}
 use Rattle.calls.proofs.merge.Goals as goal
 
-pub merge-requires : goal.merge-requires
-merge-requires c = search (few_lent, rules)
+pub returns : goal.returns
+returns c = search of_calls

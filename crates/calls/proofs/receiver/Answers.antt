@@ -2,11 +2,11 @@
 use Rattle.calls.proofs.Receivers.{handed}
 use Rattle.calls.proofs.receiver.Goals as goal
 
-pub returns-in-Nobody : goal.returns-in-Nobody
-returns-in-Nobody c = let a = c.args in handed a.first.now a.second.now (rw c.in-Nobody.is at c.receiving.ensures)
+pub returns-in-None : goal.returns-in-None
+returns-in-None c = let a = c.args in handed a.first.now a.second.now c.in-None.ensures
 
-pub returns-in-First : goal.returns-in-First
-returns-in-First c = let a = c.args in handed a.first.now a.second.now (rw c.in-First.is at c.receiving.ensures)
+pub returns-in-Some-First : goal.returns-in-Some-First
+returns-in-Some-First c = let a = c.args in handed a.first.now a.second.now (rw c.in-Some-First.field-0-is at c.in-Some-First.ensures)
 
-pub returns-in-Second : goal.returns-in-Second
-returns-in-Second c = let a = c.args in handed a.first.now a.second.now (rw c.in-Second.is at c.receiving.ensures)
+pub returns-in-Some-Second : goal.returns-in-Some-Second
+returns-in-Some-Second c = let a = c.args in handed a.first.now a.second.now (rw c.in-Some-Second.field-0-is at c.in-Some-Second.ensures)

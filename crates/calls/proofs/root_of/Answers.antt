@@ -2,21 +2,19 @@
 use Rattle.serving.proofs.Memories.{Memory, found, lost}
 use Rattle.calls.proofs.Roots.{root_part, root_none}
 use Rattle.calls.proofs.root_of.Goals as goal
+use Rattle.calls.proofs.root_of.Goals.{In_ok-found}
 
-pub returns-in_default : goal.returns-in_default
-returns-in_default c = lost c.args.s.now (rw c.in_default.is at c.memory.ensures)
+memory : (c : In_ok-found) → Memory c.args.s.now c.in_ok-found.found.nodes c.in_ok-found.found.types
+memory c = found c.args.s.now c.in_ok-found.ensures
+
+pub returns-in_err-found : goal.returns-in_err-found
+returns-in_err-found c = rw c.from_residual.ensures (lost c.args.s.now c.in_err-found.ensures)
 
 pub header-requires : goal.header-requires
-header-requires c =
-    let memory : (Memory c.args.s.now c.in-Stream.nodes c.in-Stream.types) = found c.args.s.now (rw c.in-Stream.is at c.memory.ensures) in
-    memory.some_bytes
+header-requires c = (memory (goal.at.header-requires c).In_ok-found).some_bytes
 
-pub returns-in_default-header : goal.returns-in_default-header
-returns-in_default-header c =
-    let memory : (Memory c.args.s.now c.in-Stream.nodes c.in-Stream.types) = found c.args.s.now (rw c.in-Stream.is at c.memory.ensures) in
-    root_none memory (rw c.in_default-header.is at c.header.ensures)
+pub returns-in_err-header : goal.returns-in_err-header
+returns-in_err-header c = root_none (memory (goal.at.returns-in_err-header c).In_ok-found) c.in_err-header.ensures
 
 pub returns : goal.returns
-returns c =
-    let memory : (Memory c.args.s.now c.in-Stream.nodes c.in-Stream.types) = found c.args.s.now (rw c.in-Stream.is at c.memory.ensures) in
-    root_part memory (rw c.in-Header.is at c.header.ensures)
+returns c = root_part (memory (goal.at.returns c).In_ok-found) c.in_ok-header.ensures

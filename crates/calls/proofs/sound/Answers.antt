@@ -1,7 +1,0 @@
--- `sound` meets its contract: the places that it lends have room, and the served call gives what it gives.
-use borrow.Author.Rules.{rules}
-use Rattle.calls.proofs.Lending.{few_lent}
-use Rattle.calls.proofs.sound.Goals as goal
-
-pub sound-requires : goal.sound-requires
-sound-requires c = search (few_lent, rules)
