@@ -9,6 +9,7 @@ use Rattle.definitions.specs.Stream.{write_top, top_of}
 use Rattle.definitions.specs.Place.{Result, refused, done, under, merge}
 use Rattle.definitions.specs.Calls.{Written, given, with_table, top_types_in, checked, kept, written, merge_call}
 use Rattle.definitions.proofs.Choice.{either, decide}
+use Rattle.frame.specs.declared.Writer.{Writer}
 use Rattle.frame.specs.Put.{Put}
 use Rattle.report.proofs.Emitting.{emitted_all}
 use Rattle.frame.specs.Frame.{Blocks, blocks_of, digits_in, hex_digits, hex, buffer_length, zeros, answer_line, line_for, line_of, line_limit, Line}
@@ -90,15 +91,16 @@ unfolding line_of
 line_short input = line_for_short (blocks_of input)
 
 -- a buffer that holds the longest line
-pub line_held : {input buffer buffer' : List ℕ} {n : ℕ} → Put buffer 0 (line_of input) buffer' n → line_limit ≤ length buffer → Line input buffer buffer' n
-line_held {input} {buffer} {buffer'} {n} P room =
+pub line_held : (w w' : Writer) (input final : List ℕ) → Put w (line_of input) w' → w.at ≡ 0 → (w'.buffer.ghost_name ≡ w.buffer.ghost_name → final ≡ w'.buffer.now)
+    → line_limit ≤ length w.buffer.now → Line input w.buffer.now final w'.at
+line_held w w' input final P start ends room =
     let short : length (line_of input) ≤ line_limit = line_short input in
-    let all : (n ≡ length (line_of input)) × (length (line_of input) ≤ length buffer → take (length (line_of input)) buffer' ≡ line_of input) = emitted_all P.emitted (omega arith) in
-    let same : length buffer' ≡ length buffer = P.emitted.size in
-    record {
+    let all = emitted_all {w = line_of input} start P.emitted (omega arith) in
+    let same : length w'.buffer.now ≡ length w.buffer.now = P.emitted.size in
+    rw (ends P.emitted.same_buffer) (record {
       within = omega arith;
       is = rw all.0 (all.1 (omega arith));
       rest =
-          ext_get_or 0 (drop n buffer') (drop n buffer) (simp length-drop (omega arith))
-          (λ i lt. rw (get_or-drop n buffer' i 0, get_or-drop n buffer i 0) (P.behind (omega arith) (n + i) (omega arith)));
-    }
+          ext_get_or 0 (drop w'.at w'.buffer.now) (drop w'.at w.buffer.now) (simp length-drop (omega arith))
+          (λ i lt. rw (get_or-drop w'.at w'.buffer.now i 0, get_or-drop w'.at w.buffer.now i 0) (P.behind (omega arith) (w'.at + i) (omega arith)));
+    })

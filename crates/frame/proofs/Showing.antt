@@ -1,25 +1,51 @@
--- Digits of numbers and of bytes, one behind another.
+-- A writer's bytes, one behind another.
 -- Assumes nothing.
-use Rattle.std.proofs.Common.{◌≡◌, ℕ, zero, suc, ◌+◌, ◌-◌, ◌/◌, ◌%◌, ◌<◌, ◌≤◌, List, [], ◌∷◌, ◌++◌, length, get_or, take, refl, add-one, arith, take_all, take-suc, le-ltb, lt-ltb}
+use Rattle.std.proofs.Common.{◌≡◌, ℕ, ◌+◌, ◌/◌, ◌%◌, ◌^◌, ◌<◌, ◌≤◌, List, [], ◌∷◌, ◌++◌, length, get_or, take, refl, add-one, arith, take_all, take-suc}
+use native.Mathlib.Decide.{dec_lt, ℕ_discrete}
+use Rattle.std.proofs.Common.{suc, zero, lt-ltb, le-ltb}
+use Rattle.std.specs.Fmt.{decimal}
+use Rattle.std.proofs.lemmas.Fmt.{decimal_digit, decimal_step}
 use Rattle.definitions.specs.If.{when◌then◌else◌}
+use Rattle.frame.specs.Frame.{digits_in, digits, hex_digit, hex_digits}
+use Rattle.frame.specs.declared.Writer.{Writer}
 use Rattle.frame.specs.Put.{Put}
 use Rattle.frame.proofs.Putting.{put_after}
-use Rattle.frame.specs.Frame.{digits_in, hex_digit, hex_digits, hex}
 
-pub no_digits : (most n : ℕ) → most ≡ 0 → digits_in most n ≡ []
-no_digits most n e = rw e
+pub put_one_more : (w w₁ w₂ : Writer) (s : List ℕ) (i b : ℕ) → Put w (take i s) w₁ → i < length s → b ≡ get_or s i 0 → Put w₁ (b ∷ []) w₂ → Put w (take (i + 1) s) w₂
+put_one_more w w₁ w₂ s i b A h e B = rw (add-one i, take-suc s i 0 h, ← e) (put_after A B)
 
-pub one_digit : (most n : ℕ) → (most ≡ 0 → ⊥) → n < 10 → digits_in most n ≡ (0x30 + n) ∷ []
+hex_append : (xs ys : List ℕ) → hex_digits (xs ++ ys) ≡ hex_digits xs ++ hex_digits ys
+hex_append [] ys = refl
+hex_append (x ∷ xs) ys = rw (hex_append xs ys)
+
+pub put_digits_more : (w w₁ w₂ w₃ : Writer) (s : List ℕ) (i b x y : ℕ) → Put w (hex_digits (take i s)) w₁ → i < length s → b ≡ get_or s i 0
+    → x ≡ hex_digit (b / 16) → Put w₁ (x ∷ []) w₂ → y ≡ hex_digit (b % 16) → Put w₂ (y ∷ []) w₃ → Put w (hex_digits (take (i + 1) s)) w₃
+put_digits_more w w₁ w₂ w₃ s i b x y A h e ex X ey Y =
+    rw (add-one i, take-suc s i 0 h, hex_append, ← e, ← ex, ← ey) (put_after A (put_after X Y))
+
+pub put_all : (w w₁ : Writer) (s : List ℕ) (i : ℕ) → Put w (take i s) w₁ → length s ≤ i → Put w s w₁
+put_all w w₁ s i A h = rw (take_all i s h) at A
+
+pub put_digits_all : (w w₁ : Writer) (s : List ℕ) (i : ℕ) → Put w (hex_digits (take i s)) w₁ → length s ≤ i → Put w (hex_digits s) w₁
+put_digits_all w w₁ s i A h = rw (take_all i s h) at A
+
+-- the library's digits of a number are the definitions', as long as there are no more than `most`
+decimal_digits : (most n : ℕ) → 1 ≤ most → n < 10 ^ most → n < 2 ^ 64 → decimal n ≡ digits_in most n
 unfolding when◌then◌else◌
-one_digit zero n some h = absurd (some refl)
-one_digit (suc most) n some h = rw (lt-ltb n 10 h)
+decimal_digits zero n some few small = absurd (omega arith)
+decimal_digits (suc most) n some few small = elim (dec_lt n 10) [
+  | yes low ↦ rw (lt-ltb n 10 low) (decimal_digit n low)
+  | no high ↦
+      let more : 1 ≤ most = elim (ℕ_discrete most 0) [
+        | yes none ↦ let tens : n < 10 ^ suc 0 = rw none at few in absurd (omega arith)
+        | no ne ↦ omega arith
+      ] in
+      let tenth : n / 10 < 10 ^ most = omega arith in
+      rw (le-ltb n 10 (omega arith), ← decimal_digits most (n / 10) more tenth (omega arith)) (decimal_step n (omega arith) small)
+]
 
-pub more_digits : (most n : ℕ) → (most ≡ 0 → ⊥) → 10 ≤ n → digits_in most n ≡ digits_in (most - 1) (n / 10) ++ (0x30 + n % 10) ∷ []
-unfolding when◌then◌else◌
-more_digits zero n some h = absurd (some refl)
-more_digits (suc most) n some h =
-    let less : suc most - 1 ≡ most = omega arith in
-    rw (le-ltb n 10 h, less)
+pub put_number : (w w₁ w₂ : Writer) (n : ℕ) (text : List ℕ) → text ≡ decimal n → n < 2 ^ 32 → Put w text w₁ → Put w₁ (0x20 ∷ []) w₂ → Put w (digits n ++ 0x20 ∷ []) w₂
+put_number w w₁ w₂ n text e small A B = rw (← decimal_digits 10 n (omega arith) (omega arith) (omega arith), ← e) (put_after A B)
 
 pub low_digit : (n : ℕ) → n < 10 → 0x30 + n ≡ hex_digit n
 unfolding when◌then◌else◌
@@ -28,34 +54,3 @@ low_digit n h = rw (lt-ltb n 10 h)
 pub high_digit : (n : ℕ) → 10 ≤ n → 0x57 + n ≡ hex_digit n
 unfolding when◌then◌else◌
 high_digit n h = rw (le-ltb n 10 h)
-
-hex_append : (xs ys : List ℕ) → hex_digits (xs ++ ys) ≡ hex_digits xs ++ hex_digits ys
-hex_append [] ys = refl
-hex_append (x ∷ xs) ys = rw (hex_append xs ys)
-
--- the first i bytes are emitted
-pub record Shown (s line₀ : List ℕ) (at : ℕ) (line : List ℕ) (p i : ℕ) : Type 0 where
-  pub upto : i ≤ length s
-  pub digits : Put line₀ at (hex_digits (take i s)) line p
-
-pub shown_more : {s line₀ : List ℕ} {at : ℕ} {line : List ℕ} {p i : ℕ} {line₁ : List ℕ} {p₁ : ℕ} {line₂ : List ℕ} {p₂ x y : ℕ}
-    → Shown s line₀ at line p i → i < length s
-    → x ≡ hex_digit (get_or s i 0 / 16) → Put line p (x ∷ []) line₁ p₁
-    → y ≡ hex_digit (get_or s i 0 % 16) → Put line₁ p₁ (y ∷ []) line₂ p₂
-    → Shown s line₀ at line₂ p₂ (i + 1)
-shown_more {s} {i} S h e X e' Y =
-    record {
-      upto = omega arith;
-      digits = rw (add-one i, take-suc s i 0 h, hex_append, ← e, ← e') (put_after S.digits (put_after X Y));
-    }
-
-pub shown_all : {s line₀ : List ℕ} {at : ℕ} {line : List ℕ} {p i : ℕ} → Shown s line₀ at line p i → length s ≤ i → Put line₀ at (hex_digits s) line p
-shown_all {s} {i} S h = rw (take_all i s h) at S.digits
-
-pub hex_none : (s : List ℕ) → length s ≡ 0 → hex s ≡ 0x2D ∷ []
-hex_none [] e = refl
-hex_none (b ∷ bs) e = absurd (omega arith)
-
-pub hex_some : (s : List ℕ) → (length s ≡ 0 → ⊥) → hex s ≡ hex_digits s
-hex_some [] some = absurd (some refl)
-hex_some (b ∷ bs) some = refl

@@ -1,4 +1,4 @@
 pub mod Frame
-pub mod Places
+pub mod Parts
 pub mod Answered
 pub mod Put

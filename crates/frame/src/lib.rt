@@ -1,11 +1,11 @@
 // The program's input, three blocks, and the line that it prints.
 #![tactic(auto)]
 
-ghost use Rattle.std.specs.Prelude.{◌≡◌, ◌<◌, ◌≤◌, [], ◌∷◌, ◌++◌, length};
+ghost use Rattle.std.specs.Prelude.{◌≡◌, ◌≤◌, ◌<◌, [], ◌∷◌, ◌++◌, length};
 ghost use Rattle.std.proofs.Math.Option.{none as nothing, some};
 ghost use Rattle.frame.specs.Put.{Put};
-ghost use Rattle.frame.specs.Frame.{digits_in, digits, hex_digit, hex_digits, hex, zeros, answer_line, line_for, line_of, line_limit, Line};
-ghost use Rattle.frame.specs.Places.{Ends, Framed};
+ghost use Rattle.frame.specs.Frame.{digits, hex_digit, hex_digits, hex, zeros, answer_line, line_for, line_of, line_limit, Line};
+ghost use Rattle.frame.specs.Parts.{blocks_in, FirstOf, PartsOf, Framed};
 ghost use Rattle.frame.specs.Answered.{written};
 
 use answers::Answer;
@@ -14,9 +14,6 @@ use numbers::get32;
 // The longest input.
 const INPUT: usize = 65536;
 
-// A number of 32 bits has at most ten digits.
-const DIGITS: u32 = 10;
-
 const SPACE: u8 = 0x20;
 
 const END: u8 = 0x0A;
@@ -24,88 +21,53 @@ const END: u8 = 0x0A;
 // `-`
 const NONE: u8 = 0x2D;
 
-// Where a block ends that has its length in front.
+// The table, the first stream and the second one.
 #[derive(Clone, Copy)]
-pub enum End {
-    At(usize),
-    Broken,
+pub struct Parts<'a> {
+    pub table: &'a [u8],
+    pub first: &'a [u8],
+    pub second: &'a [u8],
 }
 
-// Where the table, the first stream and the second one end.
-#[derive(Clone, Copy)]
-pub enum Frame {
-    Blocks {
-        table: usize,
-        first: usize,
-        second: usize,
-    },
-    Broken,
-}
-
-// The block at a place.
-pub fn block(s: &[u8], at: usize) -> End
-    requires { at ≤ length s.now }
-    ensures { Ends s.now at result }
+// The block that a text begins with, behind its length, and what stands behind it.
+pub fn block(s: &[u8]) -> Option<(&[u8], &[u8])>
+    ensures { FirstOf s.now result }
 {
-    let left = s.len() - at;
-    if left < 4 {
-        return End::Broken;
+    let (_, rest) = s.split_at_checked(4)?;
+    let n = get32(s, 0) as usize;
+    if rest.len() < n {
+        return None;
     }
-    let n = get32(s, at) as usize;
-    if left - 4 < n {
-        return End::Broken;
-    }
-    End::At(at + 4 + n)
+    Some(rest.split_at(n))
 }
 
-// The three blocks, one behind the other, and nothing behind them.
-pub fn blocks(s: &[u8]) -> Frame
-    ensures { Framed s.now result }
+// The three blocks that a text begins with, one behind the other, and what stands behind them.
+pub fn three_blocks(s: &[u8]) -> Option<(Parts<'_>, &[u8])>
+    ensures { PartsOf s.now result }
 {
-    if INPUT < s.len() {
-        return Frame::Broken;
-    }
-    let End::At(table) = block(s, 0) else {
-        return Frame::Broken;
-    };
-    let End::At(first) = block(s, table) else {
-        return Frame::Broken;
-    };
-    let End::At(second) = block(s, first) else {
-        return Frame::Broken;
-    };
-    if second < s.len() {
-        return Frame::Broken;
-    }
-    Frame::Blocks {
+    let (table, s) = block(s)?;
+    let (first, s) = block(s)?;
+    let (second, rest) = block(s)?;
+    let parts = Parts {
         table,
         first,
         second,
-    }
+    };
+    Some((parts, rest))
 }
 
-// One byte more, if the buffer has room for it. Nothing else changes.
-fn byte(line: &mut [u8], at: usize, b: u8) -> usize
-    ensures { Put line.old at (b ∷ []) line.new result }
+// The three blocks of an input, with nothing behind them.
+pub fn blocks(s: &[u8]) -> Option<Parts<'_>>
+    ensures { Framed s.now result }
 {
-    if at < line.len() {
-        line[at] = b;
+    if INPUT < s.len() {
+        return None;
     }
-    std::num::wrapping_add_usize(at, 1)
-}
-
-// A number's digits, of which there are at most `most`.
-fn digits_in(line: &mut [u8], at: usize, most: u32, n: u32) -> usize
-    ensures { Put line.old at (digits_in most n) line.new result }
-{
-    if most == 0 {
-        return at;
+    let (parts, rest) = three_blocks(s)?;
+    if !rest.is_empty() {
+        return None;
     }
-    if n < 10 {
-        return byte(line, at, (48 + n) as u8);
-    }
-    let next = digits_in(line, at, most - 1, n / 10);
-    byte(line, next, (48 + n % 10) as u8)
+    Some(parts)
 }
 
 fn hex_digit(n: u8) -> u8
@@ -115,69 +77,103 @@ fn hex_digit(n: u8) -> u8
     if n < 10 { 48 + n } else { 87 + n }
 }
 
-fn hex_digits(line: &mut [u8], at: usize, s: &[u8]) -> usize
-    ensures { Put line.old at (hex_digits s.now) line.new result }
-{
-    let mut p = at;
-    let mut i = 0;
-    while i < s.len() {
-        let b = s[i];
-        let next = byte(line, p, hex_digit(b / 16));
-        p = byte(line, next, hex_digit(b % 16));
-        i += 1;
+// The line's buffer, and where its next byte goes. It is not the report's `Report`: what stands behind the line is kept, too.
+#[derive(Drop)]
+struct Writer<'a> {
+    buffer: &'a mut [u8],
+    at: usize,
+}
+
+impl Writer<'_> {
+    // One byte more, if the buffer has room for it. Nothing else changes.
+    fn byte(&mut self, b: u8)
+        ensures { Put self.old (b ∷ []) self.new }
+    {
+        if self.at < self.buffer.len() {
+            self.buffer[self.at] = b;
+        }
+        self.at = self.at.wrapping_add(1);
     }
-    p
-}
 
-// Bytes in lowercase hex, or `-` if there are none.
-fn hex(line: &mut [u8], at: usize, s: &[u8]) -> usize
-    ensures { Put line.old at (hex s.now) line.new result }
-{
-    if s.len() == 0 {
-        return byte(line, at, NONE);
+    fn bytes(&mut self, s: &[u8])
+        ensures { Put self.old s.now self.new }
+    {
+        for &b in s {
+            self.byte(b);
+        }
     }
-    hex_digits(line, at, s)
-}
 
-// A number and a space.
-fn number(line: &mut [u8], at: usize, n: u32) -> usize
-    ensures { Put line.old at (digits n ++ 0x20 ∷ []) line.new result }
-{
-    let next = digits_in(line, at, DIGITS, n);
-    byte(line, next, SPACE)
-}
+    // A number and a space.
+    fn number(&mut self, n: u32)
+        ensures { Put self.old (digits n ++ 0x20 ∷ []) self.new }
+    {
+        let mut text = itoa::Buffer::new();
+        self.bytes(text.format(n).as_bytes());
+        self.byte(SPACE);
+    }
 
-// Bytes in hex, and the byte behind them.
-fn text(line: &mut [u8], at: usize, s: &[u8], behind: u8) -> usize
-    ensures { Put line.old at (hex s.now ++ behind ∷ []) line.new result }
-{
-    let next = hex(line, at, s);
-    byte(line, next, behind)
-}
+    fn hex_digits(&mut self, s: &[u8])
+        ensures { Put self.old (hex_digits s.now) self.new }
+    {
+        for &b in s {
+            self.byte(hex_digit(b / 16));
+            self.byte(hex_digit(b % 16));
+        }
+    }
 
-// `frame`
-fn broken(line: &mut [u8]) -> usize
-    ensures { Put line.old 0 (line_for nothing) line.new result }
-{
-    let mut at = byte(line, 0, 0x66);
-    at = byte(line, at, 0x72);
-    at = byte(line, at, 0x61);
-    at = byte(line, at, 0x6D);
-    at = byte(line, at, 0x65);
-    byte(line, at, END)
-}
+    // Bytes in lowercase hex, or `-` if there are none.
+    fn hex(&mut self, s: &[u8])
+        ensures { Put self.old (hex s.now) self.new }
+    {
+        if s.is_empty() {
+            self.byte(NONE);
+        } else {
+            self.hex_digits(s);
+        }
+    }
 
-// Number, pairings, output and report.
-fn answer(line: &mut [u8], a: Answer, output: &[u8], rep: &[u8]) -> usize
-    requires { (a.usage ≤ length output.now) × (a.report ≤ length rep.now) }
-    ensures { Put line.old 0 (answer_line (written a output.now rep.now)) line.new result }
-{
-    let usage = a.usage;
-    let report = a.report;
-    let pairings = number(line, 0, a.number);
-    let first = number(line, pairings, a.pairings);
-    let second = text(line, first, &output[..usage], SPACE);
-    text(line, second, &rep[..report], END)
+    // Bytes in hex, and the byte behind them.
+    fn text(&mut self, s: &[u8], behind: u8)
+        ensures { Put self.old (hex s.now ++ behind ∷ []) self.new }
+    {
+        self.hex(s);
+        self.byte(behind);
+    }
+
+    fn broken(&mut self)
+        ensures { Put self.old (line_for nothing) self.new }
+    {
+        self.bytes(b"frame\n");
+    }
+
+    // Number, pairings, output and report.
+    fn answer(&mut self, a: Answer, output: &[u8], rep: &[u8])
+        requires { (a.usage ≤ length output.now) × (a.report ≤ length rep.now) }
+        ensures { Put self.old (answer_line (written a output.now rep.now)) self.new }
+    {
+        self.number(a.number);
+        self.number(a.pairings);
+        self.text(&output[..a.usage], SPACE);
+        self.text(&rep[..a.report], END);
+    }
+
+    // The line of a merge.
+    fn merged(&mut self, parts: &Parts<'_>)
+        ensures { Put self.old (line_for (some (blocks_in parts.now))) self.new }
+    {
+        let mut work = work_area();
+        let mut output = zeros();
+        let mut rep = zeros();
+        let merge = calls::merge(
+            parts.table,
+            &mut work,
+            parts.first,
+            parts.second,
+            &mut output,
+            &mut rep,
+        );
+        self.answer(Answer::from(merge), &output, &rep);
+    }
 }
 
 // Of the work area only the length is told.
@@ -193,39 +189,23 @@ fn zeros() -> [u8; 16384]
     [0u8; 16384]
 }
 
-// The line of a merge.
-fn merged(line: &mut [u8], table: &[u8], first: &[u8], second: &[u8]) -> usize
-    ensures { Put line.old 0 (line_for (some (record { table = table.entry.now; first = first.now; second = second.now }))) line.new result }
-{
-    let mut work = work_area();
-    let mut output = zeros();
-    let mut rep = zeros();
-    let a = calls::merge(table, &mut work, first, second, &mut output, &mut rep);
-    answer(line, a, &output, &rep)
-}
-
-// The line for an input, as far as the buffer goes.
-fn printed(input: &[u8], line: &mut [u8]) -> usize
-    ensures { Put line.old 0 (line_of input.now) line.new result }
-{
-    let Frame::Blocks {
-        table,
-        first,
-        second,
-    } = blocks(input)
-    else {
-        return broken(line);
-    };
-    let a = table + 4;
-    let b = first + 4;
-    merged(line, &input[4..table], &input[a..first], &input[b..second])
-}
-
 // The line for an input: it stands at the start of the buffer, which holds the longest one, and this is its length. The rest of the
 // buffer is kept.
 pub fn line(input: &[u8], buffer: &mut [u8]) -> usize
     requires { line_limit ≤ length buffer.old }
     ensures { Line input.now buffer.old buffer.new result }
 {
-    printed(input, buffer)
+    let mut line = Writer { buffer, at: 0 };
+    printed(input, &mut line);
+    line.at
+}
+
+// The line for an input, as far as the buffer goes.
+fn printed(input: &[u8], line: &mut Writer<'_>)
+    ensures { Put line.old (line_of input.now) line.new }
+{
+    match blocks(input) {
+        Some(parts) => line.merged(&parts),
+        None => line.broken(),
+    }
 }

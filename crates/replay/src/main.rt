@@ -1,72 +1,50 @@
 // Runs the recorded answers, and says in one line what came of them.
 #![tactic(auto)]
 
+ghost use Rattle.std.specs.Prelude.{◌≤◌, length, IfSome};
 ghost use Rattle.replaying.specs.Parts.{Single};
-ghost use Rattle.replay.specs.Within.{Within};
 
-use numbers::get32;
-use replaying::Ran;
+use replaying::Counts;
 use std::fs::File;
 use std::io;
 use std::io::{Print, Read};
 
-#[derive(Clone, Copy)]
-enum Number {
-    Is(u32),
-    Missing,
+// What came of a file whose records are all whole.
+struct Replayed {
+    records: u32,
+    compared: u32,
+    different: u32,
 }
 
-// A record's length, where it has come whole.
-#[derive(Clone, Copy)]
-enum Fetched {
-    Record(usize),
-    Broken,
-}
-
-#[derive(Clone, Copy)]
-enum Replayed {
-    Whole {
-        records: u32,
-        compared: u32,
-        different: u32,
-    },
-    Broken {
-        record: u32,
-    },
+// So many records are whole, and the one behind them is broken.
+struct Broken {
+    records: u32,
 }
 
 // A number of four bytes. A read that fails is the file's end, here and below.
-fn word(file: &mut File) -> Number {
+fn word(file: &mut File) -> Option<u32> {
     let mut four = [0u8; 4];
-    if file.read_exact(&mut four).is_err() {
-        return Number::Missing;
-    }
-    Number::Is(get32(&four, 0))
+    file.read_exact(&mut four).ok()?;
+    Some(u32::from_le_bytes(four))
 }
 
-fn fetch(file: &mut File, buf: &mut [u8]) -> Fetched
-    ensures { Within buf.new result }
+// A record comes to the buffer's start; its length, where it has come whole.
+fn fetch(file: &mut File, buf: &mut [u8]) -> Option<usize>
+    ensures { IfSome result (λ n. n ≤ length buf.new) }
 {
-    let Number::Is(length) = word(file) else {
-        return Fetched::Broken;
-    };
-    let n = length as usize;
+    let n = word(file)? as usize;
     if buf.len() < n {
-        return Fetched::Broken;
+        return None;
     }
-    if file.read_exact(&mut buf[..n]).is_err() {
-        return Fetched::Broken;
-    }
-    Fetched::Record(n)
+    file.read_exact(&mut buf[..n]).ok()?;
+    Some(n)
 }
 
-fn turn(file: &mut File) -> Ran
+fn turn(file: &mut File) -> Option<Counts>
     ensures { Single result }
 {
     let mut buf = [0u8; 65536];
-    let Fetched::Record(n) = fetch(file, &mut buf) else {
-        return Ran::Broken;
-    };
+    let n = fetch(file, &mut buf)?;
     replaying::run(&buf[..n])
 }
 
@@ -76,33 +54,27 @@ fn at_end(file: &mut File) -> bool {
     file.read_exact(&mut one).is_err()
 }
 
-fn replay(file: &mut File) -> Replayed {
-    let Number::Is(records) = word(file) else {
-        return Replayed::Broken { record: 0 };
+fn replay(file: &mut File) -> Result<Replayed, Broken> {
+    let Some(records) = word(file) else {
+        return Err(Broken { records: 0 });
     };
-    let mut compared: u32 = 0;
-    let mut different: u32 = 0;
-    let mut i: u32 = 0;
-    while i < records {
-        let Ran::Record(c) = turn(file) else {
-            return Replayed::Broken { record: i };
+    let mut compared = 0;
+    let mut different = 0;
+    for i in 0..records {
+        let Some(one) = turn(file) else {
+            return Err(Broken { records: i });
         };
-        compared += c.compared;
-        different += c.different;
-        i += 1;
+        compared += one.compared;
+        different += one.different;
     }
     if !at_end(file) {
-        return Replayed::Broken { record: i };
+        return Err(Broken { records });
     }
-    Replayed::Whole {
+    Ok(Replayed {
         records,
         compared,
         different,
-    }
-}
-
-fn print(rt: &impl Print, n: u32, text: &str) -> io::Result<()> {
-    print!(rt; "{n}{text}")
+    })
 }
 
 fn main(rt: HostRuntime) -> io::Result<()> {
@@ -111,17 +83,16 @@ fn main(rt: HostRuntime) -> io::Result<()> {
         Ok(file) => file,
         Err(error) => return eprintln!(rt; "{path}: {error}"),
     };
-    print!(rt; "replay: ")?;
     match replay(&mut file) {
-        Replayed::Broken { record } => print(&rt, record, " records, then a broken one\n"),
-        Replayed::Whole {
-            records,
-            compared,
-            different,
-        } => {
-            print(&rt, records, " records, ")?;
-            print(&rt, compared, " compared, ")?;
-            print(&rt, different, " different\n")
+        Ok(
+            Replayed {
+                records,
+                compared,
+                different,
+            },
+        ) => {
+            println!(rt; "replay: {records} records, {compared} compared, {different} different")
         }
+        Err(Broken { records }) => println!(rt; "replay: {records} records, then a broken one"),
     }
 }

@@ -1,30 +1,15 @@
 -- What a record says (differential/README.md, "The recorded answers"), and that it is what the definition of its call gives.
--- A record begins with its call, the length of the work area, the type and the offset; then come its parts.
 -- Assumes nothing.
-use Rattle.std.specs.Prelude.{ℕ, ◌+◌, ◌≤◌, ◌≡◌, Bool, true, false, not, List, [], eqb, length, get_or, replicate}
+use Rattle.std.specs.Prelude.{ℕ, ◌+◌, ◌≤◌, ◌≡◌, Bool, true, false, List, [], eqb, get_or, take, drop, replicate, Option as Maybe, None, Some}
 use Rattle.definitions.specs.If.{when◌then◌else◌}
 use Rattle.definitions.specs.Calls.{Answer, Written, receiver_call, supports_call, place_call, merge_call, fold_call, sound_call}
 use Rattle.numbers.specs.Words.{word}
-use Rattle.frame.specs.Places.{between}
-use Rattle.replaying.specs.Parts.{parts_of, Begins}
-use Rattle.replaying.specs.declared.Parts.{Parts}
-use Rattle.replaying.specs.declared.Ran.{Ran}
-use Rattle.replaying.specs.declared.Ran.TheVariants as rans
-
--- Its inputs. The second stream ends at `second`; behind it stand the buffers, the answer, and what was written.
-
-abbrev pub table_in : List ℕ → Parts → List ℕ
-table_in s p = between s 17 p.table
-
-abbrev pub first_in : List ℕ → Parts → List ℕ
-first_in s p = between s (p.table + 4) p.first
-
-abbrev pub second_in : List ℕ → Parts → List ℕ
-second_in s p = between s (p.first + 4) p.second
+use Rattle.replaying.specs.Parts.{Recorded, Recording, Begins}
+use Rattle.replaying.specs.declared.Counts.{Counts}
 
 -- the output before the call: its length, and the byte that fills it
-abbrev pub output_in : List ℕ → ℕ → List ℕ
-output_in s second = replicate (word s second) (get_or s (second + 4) 0)
+abbrev pub output_in : Recorded → List ℕ
+output_in r = replicate (word r.tail 0) (get_or r.tail 4 0)
 
 -- Its answer
 
@@ -41,13 +26,13 @@ pub record Says (s : List ℕ) (at : ℕ) (a : Answer) : Type 0 where
   pub pairings : word s (at + 16) ≡ a.pairings
 
 -- the buffers hold what is recorded: behind the usage the output is as it was, and behind the report are zeros
-pub record Holds (s : List ℕ) (second : ℕ) (output report : List ℕ) : Type 0 where
-  pub usage : Begins output (between s (second + 30) (second + 30 + word s (second + 18))) (get_or s (second + 4) 0)
-  pub text : Begins report (between s (second + 30 + word s (second + 18)) (length s)) 0
+pub record Holds (r : Recorded) (output report : List ℕ) : Type 0 where
+  pub usage : Begins output (take (word r.tail 18) (drop 30 r.tail)) (get_or r.tail 4 0)
+  pub text : Begins report (drop (30 + word r.tail 18) r.tail) 0
 
-pub record Wrote (s : List ℕ) (second : ℕ) (w : Written) : Type 0 where
-  pub numbers : Says s (second + 10) w.answer
-  pub buffers : Holds s second w.output w.report
+pub record Wrote (r : Recorded) (w : Written) : Type 0 where
+  pub numbers : Says r.tail 10 w.answer
+  pub buffers : Holds r w.output w.report
 
 -- of the receiver the number says which part is handed back: an empty one, the first stream or the second
 pub data Handed (first second : List ℕ) : ℕ → List ℕ → Type 0 where
@@ -58,30 +43,23 @@ pub data Handed (first second : List ℕ) : ℕ → List ℕ → Type 0 where
 -- The definitions
 
 -- of the calls that write, which are 2 place, 3 merge and else fold, with an output and a report buffer of n bytes
-unfoldable pub called : ℕ → List ℕ → Parts → List ℕ → ℕ → Written
-called call s p output n =
-    when eqb call 2 then place_call (table_in s p) (word s 1) (first_in s p) (word s 9) (second_in s p) output n
-    else when eqb call 3 then merge_call (table_in s p) (word s 1) (first_in s p) (second_in s p) output n
-    else fold_call (table_in s p) (word s 1) (first_in s p) output n
+unfoldable pub called : ℕ → Recorded → List ℕ → ℕ → Written
+called call r output n =
+    when eqb call 2 then place_call r.parts.table (word r.head 1) r.parts.first (word r.head 9) r.parts.second output n
+    else when eqb call 3 then merge_call r.parts.table (word r.head 1) r.parts.first r.parts.second output n
+    else fold_call r.parts.table (word r.head 1) r.parts.first output n
 
-abbrev pub Writes : List ℕ → Parts → ℕ → Type 0
-Writes s p call = Wrote s p.second (called call s p (output_in s p.second) (word s (p.second + 5)))
+abbrev pub Writes : Recorded → ℕ → Type 0
+Writes r call = Wrote r (called call r (output_in r) (word r.tail 5))
 
 -- the record states what the call with this number gives
-pub data Agrees (s : List ℕ) (p : Parts) : ℕ → Type 0 where
-  receiver : Handed (first_in s p) (second_in s p) (word s (p.second + 10)) (receiver_call (first_in s p) (second_in s p)) → Agrees s p 0
-  supports : Says s (p.second + 10) (supports_call (table_in s p) (word s 1) (word s 5) (word s 9) (first_in s p)) → Agrees s p 1
-  writing : (call : ℕ) → 2 ≤ call → call ≤ 4 → Writes s p call → Agrees s p call
-  sound : Says s (p.second + 10) (sound_call (table_in s p) (word s 1) (first_in s p)) → Agrees s p 5
+pub data Agrees (r : Recorded) : ℕ → Type 0 where
+  receiver : Handed r.parts.first r.parts.second (word r.tail 10) (receiver_call r.parts.first r.parts.second) → Agrees r 0
+  supports : Says r.tail 10 (supports_call r.parts.table (word r.head 1) (word r.head 5) (word r.head 9) r.parts.first) → Agrees r 1
+  writing : (call : ℕ) → 2 ≤ call → call ≤ 4 → Writes r call → Agrees r call
+  sound : Says r.tail 10 (sound_call r.parts.table (word r.head 1) r.parts.first) → Agrees r 5
 
--- What came of a record
-
--- it is counted once, and as different unless it is the same
-abbrev pub Counted : Bool → Ran → Type 0
-Counted is_same (rans.Record c) = (c.compared ≡ 1) × (c.different ≡ bit (not is_same))
-Counted is_same rans.Broken = ⊥
-
--- one that is counted without a difference states what the definition of its call gives
-abbrev pub Agreed : List ℕ → Ran → Type 0
-Agreed s (rans.Record c) = c.different ≡ 0 → Agrees s (parts_of s) (get_or s 0 0)
-Agreed s rans.Broken = Unit {0}
+-- one that is counted without a difference is a record, and states what the definition of its call gives
+abbrev pub Agreed : List ℕ → Maybe Counts → Type 0
+Agreed s (Some c) = c.different ≡ 0 → (r : Recorded) × Recording s r × Agrees r (get_or s 0 0)
+Agreed s None = Unit {0}

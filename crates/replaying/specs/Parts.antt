@@ -1,56 +1,71 @@
--- Where the parts of a record lie, and what keeps every index in range.
+-- What a record consists of (differential/README.md, "The recorded answers"), and what keeps every index in range.
 -- Assumes nothing.
-use Rattle.std.specs.Prelude.{ℕ, ◌+◌, ◌-◌, ◌≤◌, ◌≡◌, Bool, true, false, List, ◌++◌, length, replicate}
+use Rattle.std.specs.Prelude.{ℕ, ◌+◌, ◌-◌, ◌≤◌, ◌<◌, ◌≡◌, Bool, true, false, List, ◌++◌, length, take, drop, replicate, Option as Maybe, None, Some, MatchOption}
+use Rattle.definitions.specs.Stream.{read}
 use Rattle.numbers.specs.Words.{word}
-use Rattle.replaying.specs.declared.Parts.{Parts}
+use Rattle.frame.specs.Frame.{Blocks, read_blocks}
+use Rattle.frame.specs.Parts.{blocks_in}
+use Rattle.replaying.specs.declared.Call.{Call}
+use Rattle.replaying.specs.declared.Call.TheVariants.{Receiver, Supports, Writing as Writes, Sound}
+use Rattle.replaying.specs.declared.Writing.{Writing}
+use Rattle.replaying.specs.declared.Writing.TheVariants.{Place, Merge, Fold}
 use Rattle.replaying.specs.declared.Record.{Record}
-use Rattle.replaying.specs.declared.Record.TheVariants as records
-use Rattle.replaying.specs.declared.Ran.{Ran}
-use Rattle.replaying.specs.declared.Ran.TheVariants as rans
+use Rattle.replaying.specs.declared.Counts.{Counts}
 
--- where the table, the first stream and the second one end, each with its length in front
-abbrev pub table_end : List ℕ → ℕ
-table_end s = 17 + word s 13
+-- the calls by number
 
-abbrev pub first_end : List ℕ → ℕ
-first_end s = table_end s + 4 + word s (table_end s)
+abbrev pub writing_number : Writing → ℕ
+writing_number Place = 2
+writing_number Merge = 3
+writing_number Fold = 4
 
-abbrev pub second_end : List ℕ → ℕ
-second_end s = first_end s + 4 + word s (first_end s)
+abbrev pub number_of : Call → ℕ
+number_of Receiver = 0
+number_of Supports = 1
+number_of (Writes w) = writing_number w
+number_of Sound = 5
 
-unfoldable pub parts_of : List ℕ → Parts
-parts_of s = record { table = table_end s; first = first_end s; second = second_end s }
+abbrev pub NamesCall : ℕ → Maybe Call → Type 0
+NamesCall n r = MatchOption r (5 < n) (λ call. number_of call ≡ n)
 
--- the buffers hold what was written, and the record ends with it
-pub record Fits (s : List ℕ) (second : ℕ) : Type 0 where
-  pub work : word s 1 ≤ 49160
-  pub output : word s second ≤ 16384
-  pub report : word s (second + 5) ≤ 16384
-  pub usage : word s (second + 18) ≤ word s second
-  pub text : word s (second + 22) ≤ word s (second + 5)
-  pub end : second + 30 + word s (second + 18) + word s (second + 22) ≡ length s
+-- In front of a record's parts stand the call, the length of the work area, the type and the offset. Behind them stand the buffers, the
+-- answer, and what was written.
+pub record Recorded : Type 0 where
+  pub head : List ℕ
+  pub parts : Blocks
+  pub tail : List ℕ
 
-abbrev pub Sized : List ℕ → ℕ → Bool → Type 0
-Sized s second true = Fits s second
-Sized s second false = Unit {0}
+abbrev pub lists : Record → Recorded
+lists r = record { head = r.head.now; parts = blocks_in r.parts; tail = r.tail.now }
 
--- a whole record
-pub record Whole (s : List ℕ) (p : Parts) : Type 0 where
-  pub table : 17 ≤ p.table
-  pub first : p.table + 4 ≤ p.first
-  pub second : p.first + 4 ≤ p.second
-  pub is : p ≡ parts_of s
-  pub inside : p.second + 30 ≤ length s
-  pub fits : Fits s p.second
+-- s is this record
+pub record Recording (s : List ℕ) (r : Recorded) : Type 0 where
+  pub head : r.head ≡ take 13 s
+  pub parts : read_blocks (drop 13 s) ≡ read r.parts r.tail
 
-abbrev pub Reads : List ℕ → Record → Type 0
-Reads s (records.Whole p) = Whole s p
-Reads s records.Broken = Unit {0}
+-- it is whole: the buffers hold what was written, and the record ends with it
+pub record Fits (r : Recorded) : Type 0 where
+  pub head : length r.head ≡ 13
+  pub tail : 30 ≤ length r.tail
+  pub work : word r.head 1 ≤ 49160
+  pub output : word r.tail 0 ≤ 16384
+  pub report : word r.tail 5 ≤ 16384
+  pub usage : word r.tail 18 ≤ word r.tail 0
+  pub text : word r.tail 22 ≤ word r.tail 5
+  pub end : 30 + word r.tail 18 + word r.tail 22 ≡ length r.tail
+
+abbrev pub Sized : Recorded → Bool → Type 0
+Sized r true = Fits r
+Sized r false = Unit {0}
+
+abbrev pub Reads : List ℕ → Maybe Record → Type 0
+Reads s (Some r) = Recording s (lists r) × Fits (lists r)
+Reads s None = Unit {0}
 
 -- one record is counted once
-abbrev pub Single : Ran → Type 0
-Single (rans.Record c) = (c.compared ≤ 1) × (c.different ≤ 1)
-Single rans.Broken = Unit {0}
+abbrev pub Single : Maybe Counts → Type 0
+Single (Some c) = (c.compared ≤ 1) × (c.different ≤ 1)
+Single None = Unit {0}
 
 -- a buffer begins with these bytes, and has nothing but `rest` behind them
 abbrev pub Begins : List ℕ → List ℕ → ℕ → Type 0

@@ -2,35 +2,21 @@
 // that of `differential/README.md`.
 #![tactic(auto)]
 
-ghost use Rattle.std.specs.Prelude.{◌≡◌, ◌+◌, ◌≤◌, true, length, get_or, replicate};
+ghost use Rattle.std.specs.Prelude.{◌≡◌, ◌≤◌, true, length, replicate};
 ghost use Rattle.numbers.specs.Words.{word};
 ghost use Rattle.answers.specs.Answers.{answer_of};
 ghost use Rattle.answers.specs.Writing.{Gives};
-ghost use Rattle.replaying.specs.Parts.{Begins, Fits, Sized, Whole, Reads, Single};
-ghost use Rattle.replaying.specs.Agrees.{bit, Says, Holds, called, Writes, Agrees, Counted, Agreed};
+ghost use Rattle.replaying.specs.Parts.{lists, number_of, writing_number, NamesCall, Fits, Sized, Reads, Single, Begins};
+ghost use Rattle.replaying.specs.Agrees.{Says, Holds, called, Writes, Agrees, Agreed};
 
-use answers::Answer;
-use check::same;
-use frame::{End, block};
+use answers::{Answer, Refusal, Written};
+use frame::{Parts, three_blocks};
 use numbers::get32;
 
 // The longest work area and the longest buffer of a record.
 const WORK: u32 = 49160;
 
 const BUFFER: u32 = 16384;
-
-// The calls by number.
-const RECEIVER: u8 = 0;
-
-const SUPPORTS: u8 = 1;
-
-const PLACE: u8 = 2;
-
-const MERGE: u8 = 3;
-
-const FOLD: u8 = 4;
-
-const SOUND: u8 = 5;
 
 // A record begins with the call, a byte, the length of the work area, the type and the offset that are asked. Then come its three
 // parts, each with its length in front.
@@ -42,10 +28,8 @@ const OFFSET_AT: usize = 9;
 
 const PARTS_AT: usize = 13;
 
-const TABLE_AT: usize = 17;
-
-// Behind them, counted from their end, come the output's length and fill byte, the report's, and the five numbers of the answer,
-// with the lengths of usage and report among them. The usage's bytes and the report's are all that follows.
+// Behind them come the output's length and fill byte, the report's, and the five numbers of the answer, with the lengths of usage and
+// report among them. The usage's bytes and the report's are all that follows.
 const OUTPUT_FILL_AT: usize = 4;
 
 const REPORT_AT: usize = 5;
@@ -60,18 +44,44 @@ const TEXT_AT: usize = 22;
 
 const WRITTEN_AT: usize = 30;
 
-// Where the table, the first stream and the second one end.
+// The calls, in the order of their numbers: those that write a usage and a report are the middle ones.
 #[derive(Clone, Copy)]
-struct Parts {
-    table: usize,
-    first: usize,
-    second: usize,
+enum Call {
+    Receiver,
+    Supports,
+    Writing(Writing),
+    Sound,
 }
 
 #[derive(Clone, Copy)]
-enum Record {
-    Whole(Parts),
-    Broken,
+enum Writing {
+    Place,
+    Merge,
+    Fold,
+}
+
+impl Call {
+    fn of(number: u8) -> Option<Call>
+        ensures { NamesCall number result }
+    {
+        match number {
+            0 => Some(Call::Receiver),
+            1 => Some(Call::Supports),
+            2 => Some(Call::Writing(Writing::Place)),
+            3 => Some(Call::Writing(Writing::Merge)),
+            4 => Some(Call::Writing(Writing::Fold)),
+            5 => Some(Call::Sound),
+            _ => None,
+        }
+    }
+}
+
+// A record: what stands in front of its parts, the parts, and what stands behind them.
+#[derive(Clone, Copy)]
+struct Record<'a> {
+    head: &'a [u8],
+    parts: Parts<'a>,
+    tail: &'a [u8],
 }
 
 // How many records were compared, and how many of them differ.
@@ -81,113 +91,164 @@ pub struct Counts {
     pub different: u32,
 }
 
-// What came of one record.
-#[derive(Clone, Copy)]
-pub enum Ran {
-    Record(Counts),
-    Broken,
-}
+impl Record<'_> {
+    fn read(s: &[u8]) -> Option<Record<'_>>
+        ensures { Reads s.now result }
+    {
+        let (head, rest) = s.split_at_checked(PARTS_AT)?;
+        let (parts, tail) = three_blocks(rest)?;
+        if tail.len() < WRITTEN_AT {
+            return None;
+        }
+        let record = Record { head, parts, tail };
+        if !record.sized() {
+            return None;
+        }
+        Some(record)
+    }
 
-// Are the work area and the buffers not too long, do the buffers hold what was written, and is that all that is left? The second
-// stream ends at `second`.
-fn sized(s: &[u8], second: usize) -> bool
-    requires { (5 ≤ second) × (second + 30 ≤ length s.now) }
-    ensures { Sized s.now second result }
-{
-    if WORK < get32(s, WORK_AT) {
-        return false;
+    // Are the work area and the buffers not too long, do the buffers hold what was written, and is that all that is left?
+    fn sized(&self) -> bool
+        requires { (length self.now.head.now ≡ 13) × (30 ≤ length self.now.tail.now) }
+        ensures { Sized (lists self.now) result }
+    {
+        let output = get32(self.tail, 0);
+        let report = get32(self.tail, REPORT_AT);
+        let usage = get32(self.tail, USAGE_AT);
+        let text = get32(self.tail, TEXT_AT);
+        get32(self.head, WORK_AT) <= WORK
+            && output <= BUFFER
+            && report <= BUFFER
+            && usage <= output
+            && text <= report
+            && self.tail.len() - WRITTEN_AT == usage as usize + text as usize
     }
-    let output = get32(s, second);
-    let report = get32(s, second + REPORT_AT);
-    let usage = get32(s, second + USAGE_AT);
-    let text = get32(s, second + TEXT_AT);
-    if BUFFER < output {
-        return false;
-    }
-    if BUFFER < report {
-        return false;
-    }
-    if output < usage {
-        return false;
-    }
-    if report < text {
-        return false;
-    }
-    if s.len() - second - WRITTEN_AT != usage as usize + text as usize {
-        return false;
-    }
-    true
-}
 
-fn parts_of(s: &[u8]) -> Record
-    ensures { Reads s.now result }
-{
-    if s.len() < PARTS_AT {
-        return Record::Broken;
+    // Are the recorded numbers these?
+    fn answered(&self, a: Answer) -> bool
+        requires { Fits (lists self.now) }
+        ensures { result ≡ true → Says self.now.tail.now 10 (answer_of a) }
+    {
+        get32(self.tail, ANSWER_AT) == a.number
+            && get32(self.tail, ANSWER_AT + 4) == a.yes as u32
+            && get32(self.tail, ANSWER_AT + 8) as usize == a.usage
+            && get32(self.tail, ANSWER_AT + 12) as usize == a.report
+            && get32(self.tail, ANSWER_AT + 16) == a.pairings
     }
-    let End::At(table) = block(s, PARTS_AT) else {
-        return Record::Broken;
-    };
-    let End::At(first) = block(s, table) else {
-        return Record::Broken;
-    };
-    let End::At(second) = block(s, first) else {
-        return Record::Broken;
-    };
-    if s.len() - second < WRITTEN_AT {
-        return Record::Broken;
-    }
-    if !sized(s, second) {
-        return Record::Broken;
-    }
-    Record::Whole(Parts {
-        table,
-        first,
-        second,
-    })
-}
 
-fn flag(yes: bool) -> u32
-    ensures { result ≡ bit yes }
-{
-    if yes { 1 } else { 0 }
-}
+    // For the receiver the number is 0, 1 or 2: an empty part, the first stream or the second.
+    fn receiver(&self) -> bool
+        requires { Fits (lists self.now) }
+        ensures { result ≡ true → Agrees (lists self.now) 0 }
+    {
+        let got = calls::receiver(self.parts.first, self.parts.second);
+        match get32(self.tail, ANSWER_AT) {
+            0 => got.is_empty(),
+            1 => got == self.parts.first,
+            2 => got == self.parts.second,
+            _ => false,
+        }
+    }
 
-// Are the five numbers at `at` these?
-fn answered(s: &[u8], at: usize, a: Answer) -> bool
-    requires { at + 20 ≤ length s.now }
-    ensures { result ≡ true → Says s.now at (answer_of a) }
-{
-    if get32(s, at) != a.number {
-        return false;
+    fn supports(&self) -> bool
+        requires { Fits (lists self.now) }
+        ensures { result ≡ true → Agrees (lists self.now) 1 }
+    {
+        let mut work = work_area();
+        let n = get32(self.head, WORK_AT) as usize;
+        let ty = get32(self.head, TYPE_AT);
+        let offset = get32(self.head, OFFSET_AT);
+        let got = calls::supports(
+            self.parts.table,
+            &mut work[..n],
+            ty,
+            offset,
+            self.parts.first,
+        );
+        self.answered(Answer::from(got))
     }
-    if get32(s, at + 4) != flag(a.yes) {
-        return false;
-    }
-    if get32(s, at + 8) as usize != a.usage {
-        return false;
-    }
-    if get32(s, at + 12) as usize != a.report {
-        return false;
-    }
-    get32(s, at + 16) == a.pairings
-}
 
-// For the receiver the number is 0, 1 or 2: an empty part, the first stream or the second.
-fn receiver(s: &[u8], p: Parts) -> bool
-    requires { Whole s.now p }
-    ensures { result ≡ true → Agrees s.now p 0 }
-{
-    let a = p.table + 4;
-    let b = p.first;
-    let c = p.first + 4;
-    let d = p.second;
-    let got = calls::receiver(&s[a..b], &s[c..d]);
-    match get32(s, d + ANSWER_AT) {
-        0 => got.len() == 0,
-        1 => same(got, &s[a..b]),
-        2 => same(got, &s[c..d]),
-        _ => false,
+    fn sound(&self) -> bool
+        requires { Fits (lists self.now) }
+        ensures { result ≡ true → Agrees (lists self.now) 5 }
+    {
+        let mut work = work_area();
+        let n = get32(self.head, WORK_AT) as usize;
+        let got = calls::sound(self.parts.table, &mut work[..n], self.parts.first);
+        self.answered(Answer::from(got))
+    }
+
+    fn write(&self, writing: Writing, output: &mut [u8], rep: &mut [u8]) -> Result<Written, Refusal>
+        requires { Fits (lists self.now) }
+        ensures { Gives (called (writing_number writing) (lists self.now) output.old (length rep.old)) result output.new rep.new }
+    {
+        let mut work = work_area();
+        let n = get32(self.head, WORK_AT) as usize;
+        let work = &mut work[..n];
+        let Parts {
+            table,
+            first,
+            second,
+        } = self.parts;
+        match writing {
+            Writing::Place => {
+                let offset = get32(self.head, OFFSET_AT);
+                calls::place(table, work, first, offset, second, output, rep)
+            }
+            Writing::Merge => calls::merge(table, work, first, second, output, rep),
+            Writing::Fold => calls::fold(table, work, first, output, rep),
+        }
+    }
+
+    // Do the buffers hold what was written, and behind it what stood in the output before, and zeros in the report?
+    fn wrote(&self, output: &[u8], rep: &[u8]) -> bool
+        requires fits { Fits (lists self.now) }
+        requires lengths { (word self.now.tail.now 0 ≡ length output.now) × (word self.now.tail.now 5 ≡ length rep.now) }
+        ensures { result ≡ true → Holds (lists self.now) output.now rep.now }
+    {
+        let text_at = WRITTEN_AT + get32(self.tail, USAGE_AT) as usize;
+        begins(
+            output,
+            &self.tail[WRITTEN_AT..text_at],
+            self.tail[OUTPUT_FILL_AT],
+        ) && begins(rep, &self.tail[text_at..], 0)
+    }
+
+    // A call with these buffers, which are as long as is recorded; all that it gives back is compared.
+    fn written(&self, writing: Writing, output: &mut [u8], rep: &mut [u8]) -> bool
+        requires fits { Fits (lists self.now) }
+        requires lengths { (word self.now.tail.now 0 ≡ length output.old) × (word self.now.tail.now 5 ≡ length rep.old) }
+        ensures { result ≡ true → Writes (lists self.now) (writing_number writing) }
+    {
+        output.fill(self.tail[OUTPUT_FILL_AT]);
+        rep.fill(self.tail[REPORT_FILL_AT]);
+        let got = self.write(writing, output, rep);
+        self.answered(Answer::from(got)) && self.wrote(output, rep)
+    }
+
+    // Place, merge and fold, with buffers of their own.
+    fn writing(&self, writing: Writing) -> bool
+        requires { Fits (lists self.now) }
+        ensures { result ≡ true → Writes (lists self.now) (writing_number writing) }
+    {
+        let mut output = buffer();
+        let mut rep = buffer();
+        let m = get32(self.tail, 0) as usize;
+        let n = get32(self.tail, REPORT_AT) as usize;
+        self.written(writing, &mut output[..m], &mut rep[..n])
+    }
+
+    // Does the call give what is recorded?
+    fn agrees(&self, call: Call) -> bool
+        requires { Fits (lists self.now) }
+        ensures { result ≡ true → Agrees (lists self.now) (number_of call) }
+    {
+        match call {
+            Call::Receiver => self.receiver(),
+            Call::Supports => self.supports(),
+            Call::Writing(writing) => self.writing(writing),
+            Call::Sound => self.sound(),
+        }
     }
 }
 
@@ -198,138 +259,6 @@ fn work_area() -> [u8; 49160]
     [0u8; 49160]
 }
 
-fn supports(s: &[u8], p: Parts) -> bool
-    requires { Whole s.now p }
-    ensures { result ≡ true → Agrees s.now p 1 }
-{
-    let mut work = work_area();
-    let n = get32(s, WORK_AT) as usize;
-    let ty = get32(s, TYPE_AT);
-    let offset = get32(s, OFFSET_AT);
-    let t = p.table;
-    let a = p.table + 4;
-    let b = p.first;
-    let got = calls::supports(&s[TABLE_AT..t], &mut work[..n], ty, offset, &s[a..b]);
-    answered(s, p.second + ANSWER_AT, got)
-}
-
-fn sound(s: &[u8], p: Parts) -> bool
-    requires { Whole s.now p }
-    ensures { result ≡ true → Agrees s.now p 5 }
-{
-    let mut work = work_area();
-    let n = get32(s, WORK_AT) as usize;
-    let t = p.table;
-    let a = p.table + 4;
-    let b = p.first;
-    let got = calls::sound(&s[TABLE_AT..t], &mut work[..n], &s[a..b]);
-    answered(s, p.second + ANSWER_AT, got)
-}
-
-// Every byte of a buffer becomes this one.
-fn fill(buf: &mut [u8], byte: u8)
-    ensures { buf.new ≡ replicate (length buf.old) byte }
-{
-    let mut i = 0;
-    while i < buf.len() {
-        buf[i] = byte;
-        i += 1;
-    }
-}
-
-// Is every byte this one?
-fn only(buf: &[u8], byte: u8) -> bool
-    ensures { result ≡ true → buf.now ≡ replicate (length buf.now) byte }
-{
-    let mut i = 0;
-    while i < buf.len() {
-        if buf[i] != byte {
-            return false;
-        }
-        i += 1;
-    }
-    true
-}
-
-// Does a buffer begin with these bytes, and has it nothing but `rest` behind them?
-fn begins(buf: &[u8], bytes: &[u8], rest: u8) -> bool
-    requires { length bytes.now ≤ length buf.now }
-    ensures { result ≡ true → Begins buf.now bytes.now rest }
-{
-    let n = bytes.len();
-    if !same(&buf[..n], bytes) {
-        return false;
-    }
-    only(&buf[n..], rest)
-}
-
-// Do the buffers hold what was written, and behind it what stood in the output before, and zeros in the report?
-fn wrote(s: &[u8], second: usize, output: &[u8], rep: &[u8]) -> bool
-    requires fits { Fits s.now second }
-    requires second_value { (word s.now second ≡ length output.now) × (word s.now (second + 5) ≡ length rep.now) }
-    ensures { result ≡ true → Holds s.now second output.now rep.now }
-{
-    let usage = second + WRITTEN_AT;
-    let report = usage + get32(s, second + USAGE_AT) as usize;
-    if !begins(output, &s[usage..report], s[second + OUTPUT_FILL_AT]) {
-        return false;
-    }
-    begins(rep, &s[report..], 0)
-}
-
-// Place, merge or else fold.
-fn call(s: &[u8], p: Parts, output: &mut [u8], rep: &mut [u8]) -> Answer
-    requires { Whole s.now p }
-    ensures { Gives (called (get_or s.now 0 0) s.now p output.old (length rep.old)) result output.new rep.new }
-{
-    let mut work = work_area();
-    let n = get32(s, WORK_AT) as usize;
-    let t = p.table;
-    let a = p.table + 4;
-    let b = p.first;
-    let c = p.first + 4;
-    let d = p.second;
-    match s[0] {
-        PLACE => {
-            let offset = get32(s, OFFSET_AT);
-            calls::place(
-                &s[TABLE_AT..t],
-                &mut work[..n],
-                &s[a..b],
-                offset,
-                &s[c..d],
-                output,
-                rep,
-            )
-        }
-        MERGE => calls::merge(
-            &s[TABLE_AT..t],
-            &mut work[..n],
-            &s[a..b],
-            &s[c..d],
-            output,
-            rep,
-        ),
-        _ => calls::fold(&s[TABLE_AT..t], &mut work[..n], &s[a..b], output, rep),
-    }
-}
-
-// A call with these buffers, which are as long as is recorded; all that it gives back is compared.
-fn written(s: &[u8], p: Parts, output: &mut [u8], rep: &mut [u8]) -> bool
-    requires whole { Whole s.now p }
-    requires second_value { (word s.now p.second ≡ length output.old) × (word s.now (p.second + 5) ≡ length rep.old) }
-    ensures { result ≡ true → Writes s.now p (get_or s.now 0 0) }
-{
-    let second = p.second;
-    fill(output, s[second + OUTPUT_FILL_AT]);
-    fill(rep, s[second + REPORT_FILL_AT]);
-    let got = call(s, p, output, rep);
-    if !answered(s, second + ANSWER_AT, got) {
-        return false;
-    }
-    wrote(s, second, output, rep)
-}
-
 // The longest buffer.
 fn buffer() -> [u8; 16384]
     ensures { 16384 ≡ length result }
@@ -337,40 +266,32 @@ fn buffer() -> [u8; 16384]
     [0u8; 16384]
 }
 
-// Place, merge and fold, with buffers of their own.
-fn writing(s: &[u8], p: Parts) -> bool
-    requires { Whole s.now p }
-    ensures { result ≡ true → Writes s.now p (get_or s.now 0 0) }
+// Is every byte this one?
+fn only(buf: &[u8], byte: u8) -> bool
+    ensures { result ≡ true → buf.now ≡ replicate (length buf.now) byte }
 {
-    let mut output = buffer();
-    let mut rep = buffer();
-    let m = get32(s, p.second) as usize;
-    let n = get32(s, p.second + REPORT_AT) as usize;
-    written(s, p, &mut output[..m], &mut rep[..n])
+    buf.iter().all(|&b| b == byte)
 }
 
-fn compared(agrees: bool) -> Ran
-    ensures { Counted agrees result }
+// Does a buffer begin with these bytes, and has it nothing but `rest` behind them?
+fn begins(buf: &[u8], bytes: &[u8], rest: u8) -> bool
+    requires { length bytes.now ≤ length buf.now }
+    ensures { result ≡ true → Begins buf.now bytes.now rest }
 {
-    Ran::Record(Counts {
-        compared: 1,
-        different: flag(!agrees),
-    })
+    let (front, behind) = buf.split_at(bytes.len());
+    front == bytes && only(behind, rest)
 }
 
 // One record, without its length in front.
-pub fn run(s: &[u8]) -> Ran
+pub fn run(s: &[u8]) -> Option<Counts>
     ensures single { Single result }
     ensures agreed { Agreed s.now result }
 {
-    let Record::Whole(p) = parts_of(s) else {
-        return Ran::Broken;
-    };
-    match s[0] {
-        RECEIVER => compared(receiver(s, p)),
-        SUPPORTS => compared(supports(s, p)),
-        SOUND => compared(sound(s, p)),
-        PLACE..=FOLD => compared(writing(s, p)),
-        _ => Ran::Broken,
-    }
+    let record = Record::read(s)?;
+    let call = Call::of(record.head[0])?;
+    let agrees = record.agrees(call);
+    Some(Counts {
+        compared: 1,
+        different: !agrees as u32,
+    })
 }

@@ -1,9 +1,6 @@
--- `replay` counts as many records as it has run, at most, and ends when all have been run.
-use Rattle.std.proofs.Common.{◌-◌, ◌≤◌}
+-- `replay` counts as many records as it has run, at most.
+use Rattle.std.proofs.Common.{◌≤◌}
 use Rattle.replay.proofs.replay.Given as goal
 
 abbrev pub invariant-loop-i : goal.invariant-loop-i
-invariant-loop-i l = (l.compared ≤ l.i) × (l.different ≤ l.i) × (l.i ≤ l.records)
-
-abbrev pub decreases-loop-i : goal.decreases-loop-i
-decreases-loop-i l = l.records - l.i
+invariant-loop-i l = (l.compared ≤ l.i) × (l.different ≤ l.i)

@@ -1,16 +1,9 @@
 -- `begins` meets its contract: the buffer is its front and what lies behind it.
-use Prim.Native.Nat.{ℕ}
-use mathlib.Core.Path.{◌≡◌}
-use native.Mathlib.Omega.{arith}
-use lib.ListN.{length-take}
+use Rattle.std.proofs.lemmas.Bool.Decides.{Decides-eqb}
+use Rattle.std.proofs.lemmas.Slice.Eq.{slice_eq-Decides}
 use Rattle.replaying.proofs.Filling.{begun}
 use Rattle.replaying.proofs.begins.Goals as goal
 
-pub slice_bounds-same-end : goal.slice_bounds-same-end
-slice_bounds-same-end c = simp length-take (omega arith)
-
-pub returns-then-not-same : goal.returns-then-not-same
-returns-then-not-same c = λ e. let z : ◌≡◌ {A = ℕ} 0 1 = cc in absurd (omega arith)
-
-pub returns : goal.returns
-returns c = λ e. begun _ _ _ (c.same.ensures.0 c.if-not-same.false) (c.only.ensures e)
+pub returns-then-eq : goal.returns-then-eq
+returns-then-eq c = λ e.
+    begun _ _ _ _ _ c.split_at.ensures.front c.split_at.ensures.back ((slice_eq-Decides Decides-eqb _ _ _ c.eq.ensures).0 c.if-eq.true) (c.only.ensures e)

@@ -1,18 +1,12 @@
--- `only` meets its contract. The loop's invariant: the bytes up to i are that byte.
-use Prim.Native.Nat.{ℕ}
+-- `only` meets its contract: each byte is the one that is asked.
 use mathlib.Core.Path.{◌≡◌}
-use native.Mathlib.Omega.{arith}
-use Rattle.replaying.proofs.Filling.{filled_none, filled_more, filled_all}
+use borrow.Author.Rules.{rules}
+use borrow.Author.Tests.{tests}
+use Prim.Native.Nat.{ℕ}
+use Rattle.std.proofs.lemmas.Iterator.{cases_from_all, YieldsList-from_slice}
+use Rattle.replaying.proofs.Filling.{one_byte}
 use Rattle.replaying.proofs.only.Goals as goal
 
-pub loop-i-init : goal.loop-i-init
-loop-i-init c = filled_none
-
-pub returns-then-buf-i : goal.returns-then-buf-i
-returns-then-buf-i c = λ e. let z : ◌≡◌ {A = ℕ} 0 1 = cc in absurd (omega arith)
-
-pub loop-i-preserved : goal.loop-i-preserved
-loop-i-preserved c = filled_more c.loop-i.invariant c.loop-i-test.true (omega arith)
-
 pub returns : goal.returns
-returns c = λ e. filled_all _ c.loop-i.invariant c.loop-i-test.false
+returns c = λ e. one_byte c.args.buf.now c.args.byte
+    (rw e at (cases_from_all _ _ _ (λ (x : ℕ). x ≡ c.args.byte) (λ (x : ℕ). x ≡ c.args.byte → ⊥) c.all.ensures.ran (YieldsList-from_slice c.args.buf.now cc) (λ x q k. search (rules, tests)) (λ x q k. search (rules, tests))))
