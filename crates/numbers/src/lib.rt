@@ -1,16 +1,17 @@
-// Numbers in lent bytes, the lowest byte first. `number` and `put_number` are the functions for every width; two and four bytes have a
-// function each besides, where the width is known: each is one call of the library, and that has another one for each width.
+// Numbers in lent bytes, the lowest byte first. A width is a number of bytes and no enum, since places are counted on by it. `number` and
+// `put_number` are the functions for every width; two and four bytes have a function each besides, where the width is known: each is one call
+// of the library, and that has another one for each width.
 #![tactic(auto)]
 
 ghost use Rattle.std.specs.Prelude.{◌≡◌, ◌+◌, ◌<◌, ◌≤◌, length};
 ghost use Rattle.numbers.specs.Words.{Width, number_at, put_at, word, put};
 
 // The number in two bytes.
-pub fn get16(s: &[u8], i: usize) -> u32
+pub fn get16(s: &[u8], i: usize) -> u16
     requires { i + 2 ≤ length s.now }
-    ensures { (result ≡ number_at 2 s.now i) × (result < 65536) }
+    ensures { result ≡ number_at 2 s.now i }
 {
-    u32::from(u16::from_le_bytes([s[i], s[i + 1]]))
+    u16::from_le_bytes([s[i], s[i + 1]])
 }
 
 // The lowest two bytes of a number.
@@ -43,7 +44,7 @@ pub fn number(s: &[u8], i: usize, w: usize) -> u32
 {
     match w {
         4 => get32(s, i),
-        2 => get16(s, i),
+        2 => u32::from(get16(s, i)),
         _ => 0,
     }
 }

@@ -49,19 +49,13 @@ impl Kind {
     pub fn of(command: u32) -> Kind
         ensures { result ≡ kind_of command }
     {
-        match command {
-            0x01 => Kind::StrictlyTyped,
-            0x02 => Kind::DirectAccess,
-            0x03 => Kind::OffsetBase,
-            0x04 => Kind::DynOffsetBase,
-            _ => Kind::Unused,
-        }
+        Kind::try_from(command).unwrap_or(Kind::Unused)
     }
 
     pub fn command(self) -> u8
         ensures { result ≡ command_of self }
     {
-        self as u8
+        self as u8 // an enum's number is had by `as` alone
     }
 }
 
@@ -96,7 +90,8 @@ const BARE: Command = Command {
     strictness: Strictness::Any,
 };
 
-// Indexed by command. The reader, the writer and the receiver rule all read this table.
+// Indexed by command. The reader, the writer and the receiver rule all read this table. It is constant, as document 01 has it, and so of a fixed
+// length.
 const COMMANDS: [Command; 12] = [
     // 00 Unused
     Command {
@@ -178,6 +173,7 @@ pub struct Node {
 }
 
 impl Node {
+    // Document 01's placeholder, a constant there too.
     pub const UNUSED: Node = Node {
         kind: Kind::Unused,
         size: MaxSize::Fixed(0),
@@ -234,7 +230,7 @@ impl Node {
     }
 
     // The node of this kind with these operands. An Unused has no argument.
-    pub fn of(kind: Kind, size: MaxSize, argument: u32) -> Node
+    pub fn new(kind: Kind, size: MaxSize, argument: u32) -> Node
         ensures { part_of result ≡ part_by kind (size_of size) argument }
     {
         match kind {
@@ -253,7 +249,7 @@ impl Node {
     }
 }
 
-// Does a receive b? The larger receives; at equal sizes the stricter; on a full tie the second.
+// Does a receive b? The larger receives; at equal sizes the stricter; on a full tie the second. Strictness is looked up only at equal sizes.
 pub fn first_receives(a: Node, b: Node) -> bool
     ensures { Receives a b result }
 {

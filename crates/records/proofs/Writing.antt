@@ -12,9 +12,7 @@ use borrow.Author.Tests.{eqb-true, eqb-false}
 use Rattle.definitions.specs.If.{when◌then◌else◌}
 use Rattle.definitions.specs.Usage.{Size}
 use Rattle.definitions.proofs.Choice.{decide}
-use Rattle.qptr.specs.Values.{size_of, command_of}
-use Rattle.qptr.specs.declared.Kind.{Kind}
-use Rattle.qptr.proofs.Nodes.{command_small}
+use Rattle.qptr.specs.Values.{size_of}
 use Rattle.qptr.specs.declared.MaxSize.{MaxSize}
 use Rattle.qptr.specs.declared.MaxSize.TheVariants.{Fixed, Dynamic}
 use Rattle.numbers.specs.Words.{number_at, word, put_at, put}
@@ -127,14 +125,10 @@ set_dynamic s s₁ s₂ q z e e₁ e₂ h = rw e (sized s s₁ s₂ q 0 0 e₁ e
 pub set_fixed : (s s₁ s₂ : List ℕ) (q : ℕ) (z : MaxSize) (n : ℕ) → z ≡ Fixed n → s₁ ≡ put_at 2 s (q * 32 + 2) 1 → s₂ ≡ put s₁ (q * 32 + 12) n → q * 32 + 32 ≤ length s → n < 4294967296 → Set s s₂ q (with_size (size_of z) (cell s q))
 set_fixed s s₁ s₂ q z n e e₁ e₂ h f = rw e (sized s s₁ s₂ q 1 n e₁ e₂ h (omega arith) f)
 
-set_type : (s s₁ s₂ : List ℕ) (q c t : ℕ) → s₁ ≡ put_at 2 s (q * 32) c → s₂ ≡ put s₁ (q * 32 + 16) t → q * 32 + 32 ≤ length s → c < 65536 → t < 4294967296 → Set s s₂ q (with_type c t (cell s q))
+pub set_type : (s s₁ s₂ : List ℕ) (q c t : ℕ) → s₁ ≡ put_at 2 s (q * 32) c → s₂ ≡ put s₁ (q * 32 + 16) t → q * 32 + 32 ≤ length s → c < 65536 → t < 4294967296 → Set s s₂ q (with_type c t (cell s q))
 set_type s s₁ s₂ q c t e₁ e₂ h fc ft =
     let l : length s₁ ≡ length s = length_stored 2 s s₁ (q * 32) c e₁ in
     set_again s s₁ s₂ q (with_type c (argument_in s q) (cell s q)) (with_argument t) (commanded s s₁ q c e₁ h fc) (set_argument s₁ s₂ q t e₂ (omega arith) ft)
-
-pub set_kind : (s s₁ s₂ : List ℕ) (q : ℕ) (k : Kind) (c t : ℕ) → c ≡ command_of k → s₁ ≡ put_at 2 s (q * 32) c → s₂ ≡ put s₁ (q * 32 + 16) t → q * 32 + 32 ≤ length s → t < 4294967296
-    → Set s s₂ q (with_type (command_of k) t (cell s q))
-set_kind s s₁ s₂ q k c t e e₁ e₂ h ft = rw (← e) (set_type s s₁ s₂ q c t e₁ e₂ h (omega (arith, command_small k)) ft)
 
 pub set_alone : (s s₁ s₂ s₃ s₄ s₅ s₆ : List ℕ) (q c : ℕ) (z : Size) (t o : ℕ) → Set s s₁ q (with_type c t (cell s q)) → Set s₁ s₂ q (with_next 0 (cell s₁ q)) → Set s₂ s₃ q (with_child 0 (cell s₂ q))
     → Set s₃ s₄ q (with_count 1 (cell s₃ q)) → Set s₄ s₅ q (with_size z (cell s₄ q)) → Set s₅ s₆ q (with_offset o (cell s₅ q)) → Set s s₆ q (alone c z t o)

@@ -2,7 +2,7 @@
 #![tactic(auto)]
 
 ghost use Rattle.std.specs.Prelude.{◌≡◌, ◌+◌, ◌*◌, ◌<◌, ◌≤◌, length};
-ghost use Rattle.qptr.specs.Values.{size_of, command_of, kind_of};
+ghost use Rattle.qptr.specs.Values.{size_of, kind_of};
 ghost use Rattle.records.specs.Records.{command_in, next_in, child_in, count_in, size_in, argument_in, offset_in, tag_in, past_in, cell, with_next, with_child, with_count, with_size, with_argument, with_offset, with_type, alone, Set, Marked};
 
 use numbers::{get16, get32, put16, put32};
@@ -11,15 +11,24 @@ use qptr::{Kind, MaxSize};
 // The bytes of a record.
 pub const WIDTH: usize = 32;
 
-// The parts of record q. Each function asks that the record lies within the area: a struct over the bytes would ask the same at each
-// of its methods, since q is another one from call to call.
+// The parts of record q, a function for each: what they share is a call of `numbers`. Each asks that the record lies within the area. A view
+// of one record would ask that once, but what writes goes on with the area, to the next record. A link is 0 where there is none, as it stands
+// in the record: an Option would be made and taken apart at each step of a walk. Records are counted in `usize` and kept in 16 or 32 bits:
+// `as` stands where there is no From, and cuts nothing off, since the clauses bound what is put.
+
+pub fn command(s: &[u8], q: usize) -> u16
+    requires { q * 32 + 32 ≤ length s.now }
+    ensures { result ≡ command_in s.now q }
+{
+    get16(s, q * 32)
+}
 
 // A command that no node has counts as the placeholder's.
 pub fn kind(s: &[u8], q: usize) -> Kind
     requires { q * 32 + 32 ≤ length s.now }
     ensures { result ≡ kind_of (command_in s.now q) }
 {
-    Kind::of(get16(s, q * 32))
+    Kind::of(u32::from(command(s, q)))
 }
 
 // The entry after this one; 0 for none.
@@ -27,7 +36,7 @@ pub fn next(s: &[u8], q: usize) -> usize
     requires { q * 32 + 32 ≤ length s.now }
     ensures { (result ≡ next_in s.now q) × (result < 65536) }
 {
-    get16(s, q * 32 + 4) as usize
+    usize::from(get16(s, q * 32 + 4))
 }
 
 // The first entry of a map, or the element of an array; 0 for none.
@@ -35,7 +44,7 @@ pub fn child(s: &[u8], q: usize) -> usize
     requires { q * 32 + 32 ≤ length s.now }
     ensures { (result ≡ child_in s.now q) × (result < 65536) }
 {
-    get16(s, q * 32 + 6) as usize
+    usize::from(get16(s, q * 32 + 6))
 }
 
 pub fn nodes(s: &[u8], q: usize) -> usize
@@ -120,21 +129,21 @@ pub fn put_offset(s: &mut [u8], q: usize, o: u32)
     put32(s, q * 32 + 20, o);
 }
 
-// A leaf's kind, which says how strict it is, and its type.
-pub fn put_type(s: &mut [u8], q: usize, kind: Kind, ty: u32)
+// A leaf's command, which says how strict it is, and its type. Here and below any command may be put: a kind would ask more.
+pub fn put_type(s: &mut [u8], q: usize, c: u16, ty: u32)
     requires { q * 32 + 32 ≤ length s.old }
-    ensures { Set s.old s.new q (with_type (command_of kind) ty (cell s.old q)) }
+    ensures { Set s.old s.new q (with_type c ty (cell s.old q)) }
 {
-    put16(s, q * 32, u32::from(kind.command()));
+    put16(s, q * 32, u32::from(c));
     put32(s, q * 32 + 16, ty);
 }
 
 // A node that is linked to nothing.
-pub fn put_record(s: &mut [u8], q: usize, kind: Kind, z: MaxSize, t: u32, o: u32)
+pub fn put_record(s: &mut [u8], q: usize, c: u16, z: MaxSize, t: u32, o: u32)
     requires { q * 32 + 32 ≤ length s.old }
-    ensures { Set s.old s.new q (alone (command_of kind) (size_of z) t o) }
+    ensures { Set s.old s.new q (alone c (size_of z) t o) }
 {
-    put_type(s, q, kind, t);
+    put_type(s, q, c, t);
     put_next(s, q, 0);
     put_child(s, q, 0);
     put_nodes(s, q, 1);

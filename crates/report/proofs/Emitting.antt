@@ -3,7 +3,7 @@
 use Rattle.std.proofs.Common.{◌≡◌, ℕ, ◌+◌, ◌-◌, ◌%◌, ◌^◌, ◌<◌, ◌≤◌, List, [], ◌∷◌, ◌++◌, length, get_or, take, sym, refl, ap, ◌∙◌, arith, length-append, length-take-le, get_or-take, get_or-append-add, ext_get_or}
 use native.Mathlib.Decide.{dec_lt}
 use lib.ListN.{get_or-append}
-use Rattle.report.specs.Emitted.{Emitted}
+use Rattle.report.specs.Emitted.{Emitted, SameBuffer}
 use Rattle.report.specs.declared.Report.{Report}
 
 byte_at : (s : List ℕ) {i j : ℕ} → i ≡ j → get_or s i 0 ≡ get_or s j 0
@@ -55,6 +55,17 @@ emitted_over A B h = record {
   bytes = λ l i lt room. B.bytes l i lt (omega arith);
   same_buffer = B.same_buffer ∙ A.same_buffer;
 }
+
+-- The buffer that was lent
+
+pub kept_nothing : (r : Report) → SameBuffer r r
+kept_nothing r = record { size = refl; name = refl }
+
+pub kept_both : {r r₁ r₂ : Report} → SameBuffer r r₁ → SameBuffer r₁ r₂ → SameBuffer r r₂
+kept_both K L = record { size = L.size ∙ K.size; name = L.name ∙ K.name }
+
+pub kept_emitted : {r r' : Report} {bs : List ℕ} → Emitted r bs r' → SameBuffer r r'
+kept_emitted E = record { size = E.size; name = E.same_buffer }
 
 empty : (xs : List ℕ) → length xs ≡ 0 → xs ≡ []
 empty [] e = refl

@@ -1,10 +1,11 @@
-// The report: bytes appended at a position that counts on past the end of the buffer, where they are dropped.
+// The report: bytes appended at a position that counts on past the end of the buffer, where they are dropped. Codes stand as the bytes that they
+// are in document 01, where they are reported.
 #![tactic(auto)]
 
 ghost use Rattle.std.specs.Prelude.{◌≡◌, ◌-◌, ◌≤◌, [], ◌∷◌, ◌++◌, length, take, replicate};
 ghost use Rattle.definitions.specs.Place.{straddle_conflict};
 ghost use Rattle.definitions.specs.Stream.{bytes};
-ghost use Rattle.report.specs.Emitted.{Emitted};
+ghost use Rattle.report.specs.Emitted.{Emitted, TakenBack};
 
 // A lent buffer, and where the report goes on.
 #[derive(Drop)]
@@ -51,9 +52,18 @@ impl Report<'_> {
         self.word(o);
         self.word(d);
     }
+
+    // Back to `to`, if nothing was reported behind `behind`: so a heading with nothing behind it is taken back.
+    pub fn take_back(&mut self, behind: usize, to: usize)
+        ensures { TakenBack behind to self.old self.new }
+    {
+        if self.at == behind {
+            self.at = to;
+        }
+    }
 }
 
-// Zeros from `from` to the buffer's end.
+// Zeros from `from` to the buffer's end: also of a buffer that no report was begun in, so it is no method.
 pub fn zero(rep: &mut [u8], from: usize)
     requires { from ≤ length rep.old }
     ensures { rep.new ≡ take from rep.old ++ replicate (length rep.old - from) 0 }

@@ -1,7 +1,7 @@
--- `Node::of` meets its contract: each kind has its constructor, and whatever the operands are, some usage has them.
+-- `Node::new` meets its contract: each kind has its constructor, and whatever the operands are, some usage has them.
 use Rattle.definitions.specs.Usage.{UNUSED}
 use Rattle.qptr.proofs.Nodes.{entries_of_lem}
-use Rattle.qptr.proofs.Node.of.Goals as goal
+use Rattle.qptr.proofs.Node.new.Goals as goal
 
 pub returns-in-OffsetBase : goal.returns-in-OffsetBase
 returns-in-OffsetBase c =
