@@ -83,6 +83,3 @@ module _ {t : Table} {ty : ℕ} {r : TypeLayout} {size d : ℕ} {fs : FieldList}
   finds_field {a = a} h =
       finds l y y' a (from_known a (λ c f. (field_in w.layouts w.placed w.below f).0) h.type)
       λ st p k. h.is st λ c f. p c (field_in st.table p k f).1
-
-  pub finds_first_field : {from s e : ℕ} {a : Option Component} → from ≡ 0 → InFields t fs 0 s e a → Finds t ty from s e a
-  finds_first_field z h = rw z (finds_field h)

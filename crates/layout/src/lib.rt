@@ -22,9 +22,13 @@ pub const FEW: usize = 32;
 
 const FIELDS: usize = 64;
 
+// Records are read at their places, and a list of fields is a place too: `accept` keeps places in 32 bits, where a slice of the rest would take
+// four times the room. A stride or a length of 0 is none, as it stands in the table.
+
 // A record is one byte, its kind, and then for the first three kinds size and dynamic stride, 4 bytes each. Elements go on with
 // stride, component type and length, 4 bytes each, so 21 bytes in all; fields with their count, 2 bytes, and from byte 11 on
-// offset and type, 4 bytes each. The kinds are bytes of the format, each matched once as it is read: an enum would be matched again.
+// offset and type, 4 bytes each. The kinds are bytes of the format, matched where a record's end is found and where it is
+// read: an enum between would be a third match.
 const SCALAR: u8 = 0x20;
 
 const ELEMENTS: u8 = 0x21;
@@ -35,14 +39,15 @@ const HANDLE: u8 = 0x23;
 
 const FAILED: u8 = 0x24;
 
-// A layout table: its bytes, and where each of its records begins, as `accept` found it.
+// A layout table: its bytes, and where each of its records begins, as `accept` found it. That they do is said in clauses and no invariant, since
+// each function asks more: that a type is in the table, or which table it is.
 #[derive(Clone, Copy)]
 pub struct Table<'a> {
     pub bytes: &'a [u8],
     pub places: &'a [u32],
 }
 
-// The layout of a type. A handle stands for an array of handles too.
+// The layout of a type, in document 01's three cases, of which none is an error of this crate. A handle stands for an array of handles too.
 #[derive(Clone, Copy)]
 pub enum TypeLayout {
     // a dynamic stride of 0 is none
@@ -131,7 +136,7 @@ fn field_list_at(s: &[u8], at: usize) -> FieldList
 {
     FieldList {
         at: at + 2,
-        count: get16(s, at) as usize,
+        count: usize::from(get16(s, at)),
     }
 }
 
@@ -176,7 +181,7 @@ fn fields_end(s: &[u8], at: usize) -> Option<usize>
     ensures { Ends s.now at result }
 {
     end_after(s, at, 11)?;
-    let count = get16(s, at + 9) as usize;
+    let count = usize::from(get16(s, at + 9));
     if FIELDS < count {
         return None;
     }
@@ -196,6 +201,8 @@ fn record_end(s: &[u8], at: usize) -> Option<usize>
         _ => None,
     }
 }
+
+// A type and a place are 32 bits, and become an index by `as`: `usize` has no From of them.
 
 impl Table<'_> {
     // The layout of a type, found in one step.
@@ -290,11 +297,11 @@ impl Table<'_> {
 pub fn has_few(s: &[u8]) -> bool
     ensures { result ≡ true → record_count s.now ≤ 32 }
 {
-    2 <= s.len() && get16(s, 0) as usize <= FEW
+    2 <= s.len() && usize::from(get16(s, 0)) <= FEW
 }
 
 // Is this a layout table? How many records it has, if it is. Where each record begins is kept in `places`, for a `Table` over both.
-// A table that is accepted has at most 535,554 bytes, so a place fits 32 bits.
+// A table that is accepted has at most 535,554 bytes, so a place fits 32 bits, to which it is cut by `as`.
 pub fn accept(s: &[u8], places: &mut [u32]) -> Option<usize>
     requires { Room s.now places.old }
     ensures { Accepted s.now result places.new }
@@ -302,7 +309,7 @@ pub fn accept(s: &[u8], places: &mut [u32]) -> Option<usize>
     if s.len() < 2 {
         return None;
     }
-    let count = get16(s, 0) as usize;
+    let count = usize::from(get16(s, 0));
     if RECORDS < count {
         return None;
     }
@@ -429,14 +436,7 @@ impl Table<'_> {
                 }
                 None
             }
-            Components::Fields(fields) => {
-                // The first search is compiled for itself, with all that its loop needs in registers. Later ones come only where a
-                // component contains the range and does not support the usage.
-                if from == 0 {
-                    return self.in_fields(fields, 0, start, end);
-                }
-                self.in_fields(fields, from, start, end)
-            }
+            Components::Fields(fields) => self.in_fields(fields, from, start, end),
         }
     }
 }

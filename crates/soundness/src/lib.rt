@@ -15,10 +15,7 @@ use records::{argument, kind, max_size, nodes, offset};
 fn some(z: MaxSize) -> bool
     ensures { (result ≡ (fixed 1 ≤ˢ size_of z)) × (past32 (size_of z) ≡ false) }
 {
-    match z {
-        MaxSize::Dynamic => true,
-        MaxSize::Fixed(n) => 0 < n,
-    }
+    MaxSize::Fixed(1) <= z
 }
 
 // Is an element's size fixed, equal to the stride, which is not 0?
@@ -49,7 +46,8 @@ fn past(s: &[u8], q: usize) -> usize
     q + nodes(s, q)
 }
 
-// Do the entries from record `from` to `to` follow one another, and end by the map's size?
+// Do the entries from record `from` to `to` follow one another, and end by the map's size? From one entry to the next it is as many records as
+// the entry has nodes, so there is no range to count over.
 fn chained(s: &[u8], from: usize, to: usize, map: MaxSize) -> bool
     requires { Row s.now from to }
     ensures { Chained s.now from to (size_of map) result }
@@ -66,8 +64,8 @@ fn chained(s: &[u8], from: usize, to: usize, map: MaxSize) -> bool
     place <= map
 }
 
-// What record q itself must keep. Its kinds are tested one by one: of a match with an arm for each a compiler makes a jump by a table, which
-// not every processor foresees.
+// What record q itself must keep. One kind is tested before the match: of a match with an arm for each a compiler makes a jump by a table,
+// which not every processor foresees.
 fn own(s: &[u8], q: usize) -> bool
     requires { Standing s.now q }
     ensures { Owned s.now q result }

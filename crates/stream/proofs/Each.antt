@@ -7,7 +7,6 @@ use native.Mathlib.Omega.{arith}
 use native.Mathlib.Nat.{zero-add}
 use lib.Dec.{ltb}
 use lib.ListN.{length}
-use Rattle.definitions.specs.If.{when◌then◌else◌}
 use Rattle.definitions.specs.Usage.{Entries, ◌<+>◌}
 use Rattle.definitions.specs.Stream.{broken, read, ◌then◌, number, read_entries, read_node}
 use Rattle.definitions.proofs.ReadFuel.{node_takes}

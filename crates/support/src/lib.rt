@@ -88,8 +88,9 @@ fn first_tests(table: &Table<'_>, ty: u32, at: u32, s: &[u8], q: usize) -> Optio
     None
 }
 
-// A question is of a type at an offset, about the usage at record q. Each question that another leads to changes another part of it, so
-// they are passed one by one.
+// A question is of a type at an offset, about the usage at record q, or of the type's components alone where it is not `whole`. Each question
+// that another leads to has another type and offset, or another record, so a struct of them would be built anew at each call. `whole` is a flag
+// so that each level of types takes one frame: with a function for each of its two values types nested deep took more than twice the stack.
 
 // Does some component that contains the usage at record q support it at the remaining offset?
 #[cycle(support)]
@@ -336,7 +337,7 @@ fn supports_inside(
     }
 }
 
-// What is left open is asked with a list of N answers.
+// What is left open is asked with a list of N answers, an array, since there is no heap.
 fn supports_with<const N: usize>(
     table: &Table<'_>,
     ty: u32,

@@ -15,7 +15,7 @@ pub const SHORT: usize = 256;
 
 pub const LONG: usize = 4096;
 
-// An answer in a list: the tag of what was asked, and the offset.
+// An answer in a list: the tag of what was asked, and the offset. A tag of 0 is none, since that is what cleared bytes and records are.
 #[derive(Clone, Copy)]
 pub struct Answer {
     pub tag: u32,
@@ -51,7 +51,7 @@ fn tag_of(k: u32, yes: bool) -> u32
     if yes { k * 2 + 2 } else { k * 2 + 1 }
 }
 
-// A node of the usage and a type of the table in one number.
+// A node of the usage and a type of the table in one number. q fits 16 bits; `as` cuts it without a test.
 fn node_and_type(ty: u32, q: usize) -> u32
     requires { (ty < 1024) × (q < 65536) }
     ensures { (result ≡ q * 1024 + ty) × (result < 134217728) }
@@ -59,7 +59,8 @@ fn node_and_type(ty: u32, q: usize) -> u32
     q as u32 * 1024 + ty
 }
 
-// Which of n places in a list a question has. Any would do; these lie far apart for questions that follow each other.
+// Which of n places in a list a question has. Any would do; these lie far apart for questions that follow each other. The remainder is below
+// LONG, whatever `as` would cut off.
 fn slot(k: u32, at: u32, n: usize) -> usize
     requires { (k < 134217728) × (SHORT ≤ n) }
     ensures { result < n }
@@ -68,7 +69,7 @@ fn slot(k: u32, at: u32, n: usize) -> usize
     if i < n { i } else { i % SHORT }
 }
 
-// What a list has of a question.
+// What a list has of a question: a type at an offset about a record, passed one by one, as `support` has them.
 fn look_up(answers: &[Answer], ty: u32, at: u32, q: usize) -> Option<bool>
     requires { (ty < 1024) × (q < 65536) }
     ensures { IfSome result (In answers.now ty at q) }

@@ -1,7 +1,7 @@
 -- A node's own bytes, read part by part: each part stands behind the last, and is what is read there.
 -- Assumes nothing.
 use Prim.Native.Nat.{ℕ, ◌+◌, ◌≤◌}
-use mathlib.Core.Path.{◌≡◌, refl, ap, sym, ◌∙◌}
+use mathlib.Core.Path.{◌≡◌, refl, ap, ◌∙◌}
 use mathlib.Core.List.{List, [], ◌∷◌, ◌++◌, append_assoc}
 use native.Mathlib.Omega.{arith}
 use lib.ListN.{length, get_or, drop}
@@ -12,9 +12,6 @@ use Rattle.definitions.proofs.Numbers.{bytes_length}
 use Rattle.numbers.specs.Words.{Width, number_at}
 use Rattle.numbers.proofs.Numbers.{number_is}
 use Rattle.numbers.proofs.Widths.{argument_width_lem, size_length, node_size_width, size_fits}
-use Rattle.qptr.specs.Values.{command_of, kind_of}
-use Rattle.qptr.proofs.Nodes.{kind_head}
-use Rattle.qptr.specs.declared.Kind.{Kind}
 use Rattle.records.specs.Records.{alone, Set}
 use Rattle.numbers.specs.Widths.{SizeWidth, own_width}
 use Rattle.transfer_in.specs.Nodes.{size_at, own, OwnAt}
@@ -67,10 +64,10 @@ module _ {s : List ℕ} {at front : ℕ} {work : List ℕ} {q : ℕ} (R : OwnRea
         let known : row ≡ command_at (head_of R.usage).command = e ∙ ap command_at P.command in
         rw known (node_size_width R.usage, argument_width_lem (head_of R.usage).command, omega (arith, P.within))
 
-    pub own_loaded : {work' : List ℕ} {k : Kind} {o a : ℕ} {z : Size} → k ≡ kind_of (get_or s (at + front) 0) → o ≡ number_at front s at → z ≡ size_at row.size s (at + front + 1)
-        → a ≡ number_at row.argument s (at + front + 1 + row.size) → Set work work' q (alone (command_of k) z a o)
+    pub own_loaded : {work' : List ℕ} {c o a : ℕ} {z : Size} → c ≡ get_or s (at + front) 0 → o ≡ number_at front s at → z ≡ size_at row.size s (at + front + 1)
+        → a ≡ number_at row.argument s (at + front + 1 + row.size) → Set work work' q (alone c z a o)
         → OwnLoaded s at front work q work' (at + front + 1 + row.size + row.argument)
-    own_loaded {work'} {k} {o} {a} {z} kind offset size-read argument W = record {
+    own_loaded {work'} {c} {o} {a} {z} command offset size-read argument W = record {
       root = λ p u rest A.
           let P = parts A in
           let known : row ≡ command_at (head_of u).command = e ∙ ap command_at P.command in
@@ -78,8 +75,7 @@ module _ {s : List ℕ} {at front : ℕ} {work : List ℕ} {q : ℕ} (R : OwnRea
           rw known (size_is _ s _ _ _ (node_size_width u).some (size_fits u A.size) P.size) in
           let argument-is-read : number_at row.argument s (at + front + 1 + row.size) ≡ (head_of u).argument =
           rw known (number_is _ s _ _ rest A.argument P.argument) in
-          let same_command : command_of k ≡ (head_of u).command = sym (kind_head k u (kind ∙ ap kind_of P.command)) in
-          W.here ∙ cc (same_command, size-read ∙ size-is-read ∙ head_size_lem u, argument ∙ argument-is-read, offset ∙ number_is front s at p _ A.offset P.offset);
+          W.here ∙ cc (command ∙ P.command, size-read ∙ size-is-read ∙ head_size_lem u, argument ∙ argument-is-read, offset ∙ number_is front s at p _ A.offset P.offset);
       behind = λ p u rest A.
           let P = parts A in
           let known : row ≡ command_at (head_of u).command = e ∙ ap command_at P.command in

@@ -1,4 +1,5 @@
-// Usages loaded from streams into linked records: node by node in the order of the stream, and then linked from the last to the first.
+// Usages loaded from streams into linked records: node by node in the order of the stream, and then linked from the last to the first. Places are
+// counted from the stream's start, as in `stream`.
 #![tactic(auto)]
 
 ghost use Rattle.std.specs.Prelude.{◌≡◌, ◌+◌, ◌*◌, ◌≤◌, length};
@@ -34,7 +35,8 @@ fn front_behind(s: &[u8], q: usize) -> usize
     }
 }
 
-// The node at `at` alone, behind `front` bytes of its offset, goes to record q; the place behind it.
+// The node at `at` alone, behind `front` bytes of its offset, goes to record q; the place behind it. The stream was accepted, so nothing is
+// tested again, as `stream::header` would.
 fn load_own(s: &[u8], at: usize, front: usize, work: &mut [u8], q: usize) -> usize
     requires { OwnReady s.now at front work.old q }
     ensures { OwnLoaded s.now at front work.old q work.new result }
@@ -47,7 +49,7 @@ fn load_own(s: &[u8], at: usize, front: usize, work: &mut [u8], q: usize) -> usi
     let o = number(s, at, front);
     let z = size(s, h + 1, row.size);
     let argument = number(s, a, row.argument);
-    put_record(work, q, Kind::of(u32::from(c)), z, argument, o);
+    put_record(work, q, u16::from(c), z, argument, o);
     end
 }
 
@@ -86,7 +88,7 @@ fn link(s: &mut [u8], q: usize)
 {
     match kind(s, q) {
         Kind::OffsetBase => {
-            let k = argument(s, q) as usize;
+            let k = argument(s, q) as usize; // `usize` has no From of 32 bits
             if k == 0 {
                 return;
             }

@@ -22,7 +22,7 @@ fn own_width(kind: Kind) -> usize
 }
 
 // How many entries are linked from record q on. They are linked by numbers of records, so it is a walk from one to the next, here and
-// below: there is no slice of them to go over.
+// below: there is no slice of them to go over, and an iterator made for it would need a contract that says what the loop does.
 fn entries(s: &[u8], q: usize) -> usize
     requires { Listed s.now q }
     ensures { CountIs s.now q result }
@@ -36,7 +36,8 @@ fn entries(s: &[u8], q: usize) -> usize
     k
 }
 
-// The argument of the node at record q as the stream has it: a map's record does not keep its count.
+// The argument of the node at record q as the stream has it: a map's record does not keep its count, which is counted in `usize` and fits 32
+// bits, to which `as` alone cuts it without a test.
 fn written_argument(s: &[u8], q: usize) -> u32
     requires { Readable s.now q }
     ensures { ArgumentIs s.now q result }
@@ -68,7 +69,8 @@ pub fn written_length(s: &[u8], q: usize) -> usize
     }
 }
 
-// A lent buffer, and where the text goes on.
+// A lent buffer, and where the text goes on. It has room for all that comes, so nothing is tested here;
+// `report::Report` and `frame::Writer` test each byte.
 #[derive(Drop)]
 struct Output<'a> {
     buffer: &'a mut [u8],
@@ -154,7 +156,7 @@ impl Output<'_> {
     }
 }
 
-// The usage at record q goes to `at`; the place behind it.
+// The usage at record q goes to `at`; the place behind it. One call from outside is no reason to make `Output` public.
 pub fn write(s: &[u8], q: usize, out: &mut [u8], at: usize) -> usize
     requires { Fitting s.now q out.old at }
     ensures { UsagePut s.now q out.old at out.new result }

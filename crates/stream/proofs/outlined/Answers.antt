@@ -35,5 +35,5 @@ pub returns : goal.returns
 returns c =
     let row_is : (let a = c.args in row_of c.of-row.result ≡ command_at (get_or a.s.now a.at 0)) = rw (c.requires.1, ← c.command.ensures) c.of-row.ensures in
     let a = c.args in
-    outline_at a.s.now a.at (omega arith) c.of-row.result row_is (omega arith) a.kind c.requires.1 c.of.result
-    (rw (← c.number-argument.ensures) c.of.ensures)
+    outline_at a.s.now a.at (omega arith) c.of-row.result row_is (omega arith) a.kind c.requires.1 c.new.result
+    (rw (← c.number-argument.ensures) c.new.ensures)

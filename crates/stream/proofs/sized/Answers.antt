@@ -51,7 +51,7 @@ returns c =
       reads =
           node_reads _ c.in_ok-node.field-0.node.kind
           (rw (here.reads, ← width, c.in_ok-size.ensures) (c.known.ensures _ _ ∙ rw c.if-not-known.false))
-          c.of-2.result c.of-2.ensures;
+          c.new.result c.new.ensures;
       taken = omega (arith, here.taken);
       within = here.within;
     }

@@ -4,7 +4,7 @@ use borrow.Author.Rules.{rules}
 use Rattle.std.specs.Prelude.{Some, None}
 use Rattle.stream.proofs.Skipping.{Skips_on, skip_start, skip_stop, skip_turn}
 use Rattle.stream.proofs.skip.Goals as goal
-use Rattle.stream.proofs.skip.Goals.{In_ok-node, In_ok-past}
+use Rattle.stream.proofs.skip.Goals.{In_ok-past}
 
 -- what the turn comes to
 turn : (c : In_ok-past) → Skips_on c.args.s.now c.args.from c.in_ok-node.field-0.end c.loop-node.owed (Some c.in_ok-past.field-0)

@@ -1,17 +1,10 @@
 -- `transfer_in::link` meets its contract: its kind says what lies below a root, and each of the four ends ties it.
-use native.Mathlib.Omega.{arith}
 use borrow.Author.Rules.{rules}
-use Rattle.transfer_in.proofs.Rooting.{entries_of_lem, none_tied, map_tied, element_inside, element_few, few_nodes, array_tied, leaf_tied}
+use Rattle.transfer_in.proofs.Rooting.{none_tied, map_tied, element_inside, element_few, few_nodes, array_tied, leaf_tied}
 use Rattle.transfer_in.proofs.link.Goals as goal
 
 pub returns-then-k-eq0 : goal.returns-then-k-eq0
 returns-then-k-eq0 c = search (none_tied, rules)
-
-pub link_entries-end-requires : goal.link_entries-end-requires
-link_entries-end-requires c = search (entries_of_lem, rules)
-
-pub overflow_sub-end : goal.overflow_sub-end
-overflow_sub-end c = omega (arith, c.link_entries-end.ensures.some)
 
 pub returns-else-k-eq0 : goal.returns-else-k-eq0
 returns-else-k-eq0 c =

@@ -2,7 +2,7 @@
 use mathlib.Core.Path.{refl, ◌∙◌}
 use native.Mathlib.Omega.{arith}
 use borrow.Author.Rules.{rules}
-use Rattle.transfer_in.proofs.Tying.{ties_none, entry_inside, entry_ends, entry_more, ties_more, tied}
+use Rattle.transfer_in.proofs.Tying.{ties_none, entry_inside, entry_more, ties_more, tied}
 use Rattle.transfer_in.proofs.link_entries.Goals as goal
 
 pub loop-i-init : goal.loop-i-init
@@ -10,9 +10,6 @@ loop-i-init c = (ties_none c.requires.some, c.requires.some, refl)
 
 pub nodes-requires : goal.nodes-requires
 nodes-requires c = search (entry_inside, rules)
-
-pub overflow_add-n : goal.overflow_add-n
-overflow_add-n c = let inv = c.loop-i.invariant in omega (arith, entry_ends inv.0 c.requires inv.2 c.nodes.ensures.0)
 
 pub put_next-requires : goal.put_next-requires
 put_next-requires c =
@@ -26,12 +23,6 @@ loop-i-preserved c = (search (ties_more, rules), omega arith, c.put_next.auto.s 
 
 pub nodes-requires-2 : goal.nodes-requires-2
 nodes-requires-2 c = search (entry_inside, rules)
-
-pub overflow_add-result : goal.overflow_add-result
-overflow_add-result c = let inv = c.loop-i.invariant in omega (arith, entry_ends inv.0 c.requires inv.2 c.nodes-2.ensures.0)
-
-pub shape_of-s : goal.shape_of-s
-shape_of-s c = c.loop-i.invariant.2
 
 pub returns : goal.returns
 returns c = search (tied, rules)

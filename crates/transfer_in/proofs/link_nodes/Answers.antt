@@ -17,8 +17,5 @@ loop-i-preserved c =
     let inv = c.loop-i.invariant in
     (linking_more inv.0 (omega arith) (omega arith) inv.2 c.requires c.link.ensures, omega arith, omega arith, c.link.auto.s ∙ inv.3)
 
-pub shape_of-work : goal.shape_of-work
-shape_of-work c = c.loop-i.invariant.3
-
 pub returns : goal.returns
 returns c = let inv = c.loop-i.invariant in all_tied inv.0 (omega arith)

@@ -25,9 +25,6 @@ load_own-p-requires c =
       inside = omega (arith, c.requires.inside, loop.invariant.6);
     }
 
-pub front_behind-front-requires : goal.front_behind-front-requires
-front_behind-front-requires c = omega (arith, c.requires.inside, c.loop-i.invariant.6, c.load_own-p.auto.work)
-
 pub loop-i-preserved : goal.loop-i-preserved
 loop-i-preserved c =
     let inv = c.loop-i.invariant in (
@@ -39,9 +36,6 @@ loop-i-preserved c =
       c.load_own-p.ensures.within,
       c.load_own-p.auto.work ∙ inv.6,
     )
-
-pub shape_of-work : goal.shape_of-work
-shape_of-work c = c.loop-i.invariant.6
 
 pub returns : goal.returns
 returns c =

@@ -1,11 +1,7 @@
 -- `transfer_in::load_own` meets its contract: each part is read where it stands, and the record says them.
-use Prim.Native.Nat.{◌+◌}
 use native.Mathlib.Omega.{arith}
 use Rattle.transfer_in.proofs.OwnRead.{head_inside, own_inside, own_loaded}
 use Rattle.transfer_in.proofs.load_own.Goals as goal
-
-pub overflow_add-h : goal.overflow_add-h
-overflow_add-h c = omega (arith, head_inside c.requires)
 
 pub bounds-s-h : goal.bounds-s-h
 bounds-s-h c = omega (arith, head_inside c.requires)
@@ -31,10 +27,7 @@ size-z-requires c = let inside = own_inside c.requires c.of-row.ensures in (insi
 pub number-argument-requires : goal.number-argument-requires
 number-argument-requires c = let inside = own_inside c.requires c.of-row.ensures in (inside.1, inside.2)
 
-pub put_record-requires : goal.put_record-requires
-put_record-requires c = c.requires.inside
-
 pub returns : goal.returns
 returns c =
     own_loaded c.requires c.of-row.ensures
-    (rw c.from.ensures at c.of.ensures) c.number-o.ensures c.size-z.ensures c.number-argument.ensures c.put_record.ensures
+    c.from.ensures c.number-o.ensures c.size-z.ensures c.number-argument.ensures c.put_record.ensures

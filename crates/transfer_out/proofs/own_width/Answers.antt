@@ -1,9 +1,7 @@
 -- `transfer_out::own_width` meets its contract: the command table's row is the definitions', whose widths are small.
-use Prim.Native.Nat.{◌+◌}
-use mathlib.Core.Path.{ap, ◌∙◌}
+use mathlib.Core.Path.{ap}
 use native.Mathlib.Omega.{arith}
 use Rattle.definitions.specs.Command.{Command}
-use Rattle.numbers.specs.Widths.{own_width}
 use Rattle.numbers.proofs.Widths.{argument_width_lem, size_width_lem}
 use Rattle.transfer_out.proofs.own_width.Goals as goal
 
@@ -19,6 +17,3 @@ overflow_add-result-2 c =
       (size_width_lem c.command.result).small,
       (argument_width_lem c.command.result).small,
     )
-
-pub returns : goal.returns
-returns c = ap (λ (r : Command). 1 + r.size + r.argument) c.of-row.ensures ∙ ap own_width c.command.ensures

@@ -1,6 +1,6 @@
 -- Components are earlier types of the table, so that each may be asked for its size.
 use borrow.Author.Rules.{rules}
-use Rattle.layout.proofs.Finding.{some_stride, element_type, finds_element, field_types, finds_field, finds_first_field}
+use Rattle.layout.proofs.Finding.{some_stride, element_type, finds_element, field_types, finds_field}
 use Rattle.layout.proofs.Table.find_components_containing.Goals as goal
 
 pub in_elements-requires : goal.in_elements-requires
@@ -12,11 +12,5 @@ returns-then-from-eq0 c = search (finds_element, rules)
 pub in_fields-requires : goal.in_fields-requires
 in_fields-requires c = search (field_types, rules)
 
-pub returns-then-from-eq0-2 : goal.returns-then-from-eq0-2
-returns-then-from-eq0-2 c = search (finds_first_field, rules)
-
-pub in_fields-requires-in-Fields : goal.in_fields-requires-in-Fields
-in_fields-requires-in-Fields c = search (field_types, rules)
-
-pub returns-else-from-eq0-2 : goal.returns-else-from-eq0-2
-returns-else-from-eq0-2 c = search (finds_field, rules)
+pub returns-in-Fields : goal.returns-in-Fields
+returns-in-Fields c = search (finds_field, rules)

@@ -1,6 +1,5 @@
 -- `Maps::pop` meets its contract: what is read are the numbers of the uppermost level.
-use Prim.Native.Nat.{◌+◌}
-use mathlib.Core.Path.{refl, sym, ap}
+use mathlib.Core.Path.{refl, sym}
 use native.Mathlib.Omega.{arith}
 use Rattle.stream.proofs.Keeping.{pop_none, pop_top}
 use Rattle.stream.proofs.Maps.pop.Goals as goal
@@ -10,5 +9,5 @@ returns-then-outer-eq0 c = pop_none _ _ _ c.if-outer-eq0.true refl (sym c.if-out
 
 pub returns : goal.returns
 returns c =
-    pop_top _ _ _ (omega (arith, c.get16.ensures.0, c.get16.ensures.1)) (omega arith) c.if-outer-eq0.false
-    (ap (λ n. n + 1) c.get16.ensures.0) c.get32.ensures refl
+    pop_top _ _ _ (omega (arith, c.get16.ensures)) (omega arith) c.if-outer-eq0.false
+    (omega (arith, c.from.ensures, c.get16.ensures)) c.get32.ensures refl
