@@ -1,7 +1,7 @@
 -- The loop of a placing: whatever goal its first state stood for, each later one stands for too, since a turn goes on from what stands, or places or merges the pending pair.
 -- Assumes nothing.
 use Rattle.std.proofs.Common.{◌≡◌, ℕ, ◌+◌, ◌*◌, ◌^◌, ◌<◌, ◌≤◌, List, [], ◌∷◌, ◌++◌, length, length-append, refl, sym, ap, ◌∙◌, arith}
-use Rattle.std.specs.Prelude.{Ok, Err}
+use Rattle.std.specs.Prelude.{Result as Outcome, Ok, Err}
 use Rattle.definitions.specs.Limits.{max32}
 use Rattle.definitions.specs.Usage.{Usage, nodes}
 use Rattle.definitions.specs.Table.{Setting}
@@ -21,21 +21,27 @@ use Rattle.place_states.specs.Starts.{Began}
 use Rattle.place_states.specs.declared.State.{State}
 use Rattle.place_states.specs.declared.Merged.{Merged}
 use Rattle.place_states.specs.declared.SizeRefusal.{SizeRefusal}
-use Rattle.place_states.specs.declared.Todo.{Todo}
-use Rattle.place_states.specs.declared.Todo.TheVariants.{Finished, Go, Place, Merge}
-use Rattle.place_states.proofs.Ahead.{next_ends, next_holds}
-use Rattle.place_states.proofs.Answering.{done_ok, done_err, refused_done}
+use Rattle.place_states.specs.declared.Pairing.{Pairing}
+use Rattle.place_states.specs.declared.Pairing.TheVariants.{Place, Merge}
+use Rattle.place_states.specs.declared.Todo.TheVariants.{Finished, Go, Pair}
+use Rattle.place_states.proofs.Ahead.{next_ends, next_holds, next_pair}
+use Rattle.report.proofs.Emitting.{kept_both, kept_emitted}
+use Rattle.place_states.proofs.Answering.{done_ok, done_err, refused_done, done_kept}
 use Rattle.place_states.proofs.Room.{place_short}
 use Rattle.place_rules.specs.Settling.{Settled}
 use Rattle.place_rules.proofs.Settling.{settled_next}
 use Rattle.analyze.proofs.Waits.{outside_chain}
-use Rattle.analyze.proofs.Pairs.{Asks, asks_turns, next_pair, pair_ground, gave, took}
+use Rattle.analyze.proofs.Pairs.{pair_ground, gave, took}
 
 -- each state stands for whatever the first one stood for
 pub record Loop (table : Table) (s₀ : List ℕ) (rep₀ : Report) (st₀ : State) (at a : ℕ) (s : List ℕ) (rep : Report) (st : State) : Type 0 where
   pub len : length s ≡ length s₀
   pub next : (setting : Setting) → Known table setting → (goal : Result Usage) (g : Ground) (n : ℕ) → g.report.at ≡ at → Short at goal
       → Next setting goal g n s₀ rep₀ a st₀ → Next setting goal g n s rep a st
+
+-- what is done with a pair
+abbrev pub acting : Pairing → ℕ → Setting → Usage → Usage → Result Usage
+acting how d setting t u = act setting how d t u
 
 resume_refused : (setting : Setting) (y : Beyond) (o : ℕ) (w : List ℕ) (p k : ℕ) → resume setting y o w p (refused k) ≡ refused k
 unfolding resume
@@ -64,16 +70,16 @@ module _ {table : Table} {sₑ s₀ s : List ℕ} {repₑ rep₀ rep : Report} {
   loop_last e = record { done = λ setting known t u r lo mid hi two. next_ends (stands_for setting known t u r lo mid hi two) e }
 
   -- the pair's refusal is the goal's
-  pub loop_refused : Asks st.todo → {s₂ : List ℕ} {rep₂ : Report} {e : SizeRefusal} {A : Setting → Usage → Usage → Result Usage}
-      → ((setting : Setting) (t u : Usage) → A setting t u ≡ act setting st.todo st.d t u) → Placed A table s st.x st.m s₂ (Err e) rep rep₂
+  pub loop_refused : {how : Pairing} → st.todo ≡ Pair how → {s₂ : List ℕ} {rep₂ : Report} {e : SizeRefusal} → Placed (acting how st.d) table s st.x st.m s₂ (Err e) rep rep₂
       → Placed (placing d) table sₑ a b s₂ (Err e) repₑ rep₂
   unfolding placing
-  loop_refused asks {s₂} {rep₂} {e} {A} is P = record {
+  loop_refused {how} asks {s₂} {rep₂} {e} P = record {
     done = λ setting known t u r lo mid hi two.
         let Q = next_pair (stands_for setting known t u r lo mid hi two) asks in
         let D = P.done setting known Q.t Q.u Q.rank Q.c Q.m Q.e Q.two in
-        let x = sym (is setting Q.t Q.u) ∙ done_err (A setting Q.t Q.u) _ s₂ e rep₂ D in
-        refused_done (place setting t d u) (ground sₑ r lo hi repₑ) s₂ e rep₂ (sym Q.comes ∙ ap (resume setting Q.y Q.o Q.w Q.p) x ∙ resume_refused setting Q.y Q.o Q.w Q.p (number_of e));
+        let x = done_err (act setting how st.d Q.t Q.u) _ s₂ e rep₂ D in
+        refused_done (place setting t d u) (ground sₑ r lo hi repₑ) s₂ e rep₂
+        (sym Q.comes ∙ ap (resume setting Q.y Q.o Q.w Q.p) x ∙ resume_refused setting Q.y Q.o Q.w Q.p (number_of e), kept_both (kept_emitted Q.report) (done_kept (act setting how st.d Q.t Q.u) _ s₂ (Err e) rep₂ D));
   }
 
   -- of the two that the call has at hand
@@ -114,8 +120,8 @@ module _ {table : Table} {sₑ s₀ s : List ℕ} {repₑ rep₀ rep : Report} {
   nodes_here : all ≡ nodes_at sₑ a + nodes_at sₑ b
   nodes_here = omega (arith, R.two.few, nodes_at_lem R.t sₑ a R.r R.lo R.mid R.two.left (omega (arith, R.two.few)), nodes_at_lem R.u sₑ b R.r R.mid R.hi R.two.right (omega (arith, R.two.few)))
 
-  module _ (asks : Asks st.todo) where
-    abbrev pending : Pending R.setting (place R.setting R.t d R.u) here all s rep a st
+  module _ {how : Pairing} (asks : st.todo ≡ Pair how) where
+    abbrev pending : Pending how R.setting (place R.setting R.t d R.u) here all s rep a st
     pending = next_pair alive asks
 
     nodes_pair : nodes pending.t + nodes pending.u ≡ nodes_at s st.x + nodes_at s st.m
@@ -180,16 +186,16 @@ module _ {table : Table} {s₀ s : List ℕ} {rep₀ rep : Report} {st₀ st : S
           let brief : Short g.report.at goal = rw base short in
           rw H.comes at (M.next setting H.y H.u H.w H.p g n H.within H.standing (rw (← H.comes) at brief))
 
-  -- the call's answer A is what the state asks for
-  module _ (asks : Asks st.todo) (near : at ≤ 2 ^ 62) {s₂ : List ℕ} {rep₂ rep₃ : Report} {r : Merged} {A : Setting → Usage → Usage → Result Usage}
-      (is : (setting : Setting) (t u : Usage) → A setting t u ≡ act setting st.todo st.d t u) (P : Placed A table s st.x st.m s₂ (Ok r) rep rep₂)
+  -- the call's answer is what the state asks for
+  module _ {how : Pairing} (asks : st.todo ≡ Pair how) (near : at ≤ 2 ^ 62) {s₂ : List ℕ} {rep₂ rep₃ : Report} {r : Merged}
+      (P : Placed (acting how st.d) table s st.x st.m s₂ (Ok r) rep rep₂)
       {st' : State} (D : Settled st rep.at r rep₂ rep₃ st') (d-fits : st'.d ≤ max32) where
     was-fits : st.d ≤ max32
     was-fits = omega (arith, ap (λ (x : State). x.d) D.state)
 
-    done_pair : (setting : Setting) → Known table setting → {goal : Result Usage} {g : Ground} {n : ℕ} (Q : Pending setting goal g n s rep a st)
-        → Done (act setting st.todo st.d Q.t Q.u) (pair_ground Q) s₂ (Ok r) rep₂
-    done_pair setting known Q = rw (is setting Q.t Q.u) at (P.done setting known Q.t Q.u Q.rank Q.c Q.m Q.e Q.two)
+    done_pair : (setting : Setting) → Known table setting → {goal : Result Usage} {g : Ground} {n : ℕ} (Q : Pending how setting goal g n s rep a st)
+        → Done (act setting how st.d Q.t Q.u) (pair_ground Q) s₂ (Ok r) rep₂
+    done_pair setting known Q = P.done setting known Q.t Q.u Q.rank Q.c Q.m Q.e Q.two
 
     pub loop_again : length s₂ ≡ length s → Loop table s₀ rep₀ st₀ at a s₂ rep₃ st'
     loop_again ls = record {
@@ -203,25 +209,18 @@ module _ {table : Table} {s₀ s : List ℕ} {rep₀ rep : Report} {st₀ st : S
         → chain 65536 s₂ st'.rest * 3 + turns st'.todo < chain 65536 s st.rest * 3 + turns st.todo
     chain_less setting known {g} X =
         let Q = next_pair X asks in
-        let V = done_ok (act setting st.todo st.d Q.t Q.u) (done_pair setting known Q) in
+        let V = done_ok (act setting how st.d Q.t Q.u) (done_pair setting known Q) in
         let G = gave Q s₂ rep₂ r was-fits V.is V.answered in
         let before = outside_chain (length setting.table) Q.y s a st Q.rank g.lo Q.c Q.e g.hi (omega (arith, Q.few)) Q.outside in
         let after = outside_chain (length setting.table) Q.y s₂ a st G.rank g.lo G.c G.e g.hi (omega (arith, Q.few)) G.outside in
-        rw D.state (omega (arith, before, after, asks_turns st.todo asks))
+        rw D.state (omega (arith, before, after, ap turns asks))
 
 -- the two calls that a state asks for
+module _ {how : Pairing} {table : Table} {s s' : List ℕ} {x m : ℕ} {r : Outcome Merged SizeRefusal} {rep rep' : Report} where
+  pub placed_pair : (d : ℕ) → how ≡ Place → Placed (placing d) table s x m s' r rep rep' → Placed (acting how d) table s x m s' r rep rep'
+  unfolding placing act
+  placed_pair d e P = rw e (record { done = P.done })
 
-pub is_merging : (todo : Todo) (d : ℕ) → todo ≡ Merge → (setting : Setting) (t u : Usage) → merging setting t u ≡ act setting todo d t u
-unfolding merging act
-is_merging todo d e setting t u = rw e refl
-
-pub is_placing : (todo : Todo) (d : ℕ) → todo ≡ Place → (setting : Setting) (t u : Usage) → placing d setting t u ≡ act setting todo d t u
-unfolding placing act
-is_placing todo d e setting t u = rw e refl
-
--- the turn that the loop takes where it is none of the others
-pub last_turn : (v : Todo) → (v ≡ Finished → ⊥) → (v ≡ Go → ⊥) → (v ≡ Merge → ⊥) → v ≡ Place
-last_turn Finished f g m = absurd (f refl)
-last_turn Go f g m = absurd (g refl)
-last_turn Place f g m = refl
-last_turn Merge f g m = absurd (m refl)
+  pub merged_pair : (d : ℕ) → how ≡ Merge → Placed merging table s x m s' r rep rep' → Placed (acting how d) table s x m s' r rep rep'
+  unfolding merging act
+  merged_pair d e P = rw e (record { done = P.done })

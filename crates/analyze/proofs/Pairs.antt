@@ -1,6 +1,6 @@
 -- What a pair that has been placed or merged gave: the definitions bound it, and only records of the pair's ranks have changed.
 -- Assumes nothing.
-use Rattle.std.proofs.Common.{◌≡◌, ℕ, ◌+◌, ◌-◌, ◌*◌, ◌^◌, ◌<◌, ◌≤◌, List, length, ap, ◌⊎◌, inl, inr, arith}
+use Rattle.std.proofs.Common.{◌≡◌, ℕ, ◌+◌, ◌-◌, ◌*◌, ◌^◌, ◌<◌, ◌≤◌, List, length, arith}
 use Rattle.std.proofs.Math.Nat.{mul-le-mul_right}
 use Rattle.std.specs.Prelude.{Ok}
 use Rattle.definitions.specs.Limits.{max32}
@@ -17,13 +17,12 @@ use Rattle.report.specs.declared.Report.{Report}
 use Rattle.report.proofs.Emitting.{emitted_after}
 use Rattle.place_states.specs.Calls.{Ground, Answered, Done, ground}
 use Rattle.place_states.specs.Beyond.{Beyond, entries, element, joins, spare, act}
-use Rattle.place_states.specs.States.{Pending, Next, turns}
+use Rattle.place_states.specs.States.{Pending}
 use Rattle.place_states.specs.Taking.{Given, Took}
 use Rattle.place_states.specs.declared.State.{State}
 use Rattle.place_states.specs.declared.Merged.{Merged}
-use Rattle.place_states.specs.declared.Todo.{Todo}
-use Rattle.place_states.specs.declared.Todo.TheVariants.{Finished, Go, Place, Merge}
-use Rattle.place_states.proofs.Ahead.{next_place, next_merge}
+use Rattle.place_states.specs.declared.Pairing.{Pairing}
+use Rattle.place_states.specs.declared.Pairing.TheVariants.{Place, Merge}
 use Rattle.place_states.proofs.Answering.{done_ok}
 use Rattle.place_states.proofs.Framing.{outside_kept}
 use Rattle.analyze.proofs.Waits.{outside_inside}
@@ -49,11 +48,9 @@ place_gives st k d t u le ht hu q =
     let b = within_bounded (place_within st t d u) q in
     record { fits = place_storable st k t d u ht hu le q; few_nodes = b.few_nodes; paid = b.paid; short = b.short_report }
 
-act_gives : (st : Setting) (k : ℕ) (todo : Todo) (d : ℕ) (t u : Usage) {r : Usage} {w : List ℕ} {p : ℕ} → d ≤ max32 → Storable k t → Storable k u
-    → act st todo d t u ≡ done r w p → Gives k t u r w p
+act_gives : (st : Setting) (k : ℕ) (how : Pairing) (d : ℕ) (t u : Usage) {r : Usage} {w : List ℕ} {p : ℕ} → d ≤ max32 → Storable k t → Storable k u
+    → act st how d t u ≡ done r w p → Gives k t u r w p
 unfolding act
-act_gives st k Finished d t u le ht hu q = place_gives st k d t u le ht hu q
-act_gives st k Go d t u le ht hu q = place_gives st k d t u le ht hu q
 act_gives st k Place d t u le ht hu q = place_gives st k d t u le ht hu q
 act_gives st k Merge d t u le ht hu q =
     let b = within_bounded (merge_mem_within st t u) q in
@@ -64,28 +61,16 @@ spare_more (entries es) m n h = omega (arith, mul-le-mul_right (nodes_in es) h)
 spare_more (element z k) m n h = omega arith
 spare_more (joins z low mid high d) m n h = omega (arith, mul-le-mul_right (nodes_in mid) h)
 
--- a pair is to be placed or merged
-abbrev pub Asks : Todo → Type 0
-Asks todo = (todo ≡ Place) ⊎ (todo ≡ Merge)
-
-pub asks_turns : (todo : Todo) → Asks todo → turns todo ≡ 2
-asks_turns todo (inl e) = ap turns e
-asks_turns todo (inr e) = ap turns e
-
-module _ {setting : Setting} {goal : Result Usage} {g : Ground} {n : ℕ} {s : List ℕ} {rep : Report} {a : ℕ} {st : State} where
-  pub next_pair : Next setting goal g n s rep a st → Asks st.todo → Pending setting goal g n s rep a st
-  next_pair N (inl e) = next_place N e
-  next_pair N (inr e) = next_merge N e
-
+module _ {how : Pairing} {setting : Setting} {goal : Result Usage} {g : Ground} {n : ℕ} {s : List ℕ} {rep : Report} {a : ℕ} {st : State} where
   -- where the pair's call begins
-  abbrev pub pair_ground : Pending setting goal g n s rep a st → Ground
+  abbrev pub pair_ground : Pending how setting goal g n s rep a st → Ground
   pair_ground Q = ground s Q.rank Q.c Q.e rep
 
-  module _ (Q : Pending setting goal g n s rep a st) (s₂ : List ℕ) (rep₂ : Report) (m : Merged) (d-fits : st.d ≤ max32) where
-    pub gave : {v : Usage} {w : List ℕ} {p : ℕ} → act setting st.todo st.d Q.t Q.u ≡ done v w p → Answered v w p (pair_ground Q) s₂ m rep₂
+  module _ (Q : Pending how setting goal g n s rep a st) (s₂ : List ℕ) (rep₂ : Report) (m : Merged) (d-fits : st.d ≤ max32) where
+    pub gave : {v : Usage} {w : List ℕ} {p : ℕ} → act setting how st.d Q.t Q.u ≡ done v w p → Answered v w p (pair_ground Q) s₂ m rep₂
         → Given (length setting.table) Q.y Q.o Q.w Q.p g n v w p s₂ rep₂ a st m
     gave {v} is D =
-        let G = act_gives setting (length setting.table) st.todo st.d Q.t Q.u d-fits Q.two.left_fits Q.two.right_fits is in
+        let G = act_gives setting (length setting.table) how st.d Q.t Q.u d-fits Q.two.left_fits Q.two.right_fits is in
         let I = outside_inside (length setting.table) Q.y s a st Q.rank g.lo Q.c Q.e g.hi Q.outside in
         record {
           rank = D.rank;
@@ -103,9 +88,9 @@ module _ {setting : Setting} {goal : Result Usage} {g : Ground} {n : ℕ} {s : L
           outside = outside_kept (length setting.table) Q.y s s₂ a st Q.rank D.rank g.lo Q.c Q.e g.hi (omega (arith, stands_le Q.t s st.x Q.rank Q.c Q.m Q.two.left, stands_le Q.u s st.m Q.rank Q.m Q.e Q.two.right)) D.kept Q.outside;
         }
 
-    pub took : g.report.at < 2 ^ 63 → Done (act setting st.todo st.d Q.t Q.u) (pair_ground Q) s₂ (Ok m) rep₂ → Took setting goal g n s₂ rep₂ a st rep.at m
+    pub took : g.report.at < 2 ^ 63 → Done (act setting how st.d Q.t Q.u) (pair_ground Q) s₂ (Ok m) rep₂ → Took setting goal g n s₂ rep₂ a st rep.at m
     took near D =
-        let R = done_ok (act setting st.todo st.d Q.t Q.u) D in
+        let R = done_ok (act setting how st.d Q.t Q.u) D in
         record {
           y = Q.y;
           o = Q.o;

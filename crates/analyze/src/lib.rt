@@ -8,7 +8,7 @@ ghost use Rattle.analyze.specs.Tops.{Top};
 
 use layout::Table;
 use place_rules::{begin, settle, step};
-use place_states::{Merged, SizeRefusal, Todo};
+use place_states::{Merged, Pairing, SizeRefusal, Todo};
 use qptr::{Node, first_receives};
 use records::{kind, max_size};
 use report::Report;
@@ -18,10 +18,10 @@ fn top(s: &[u8], q: usize) -> Node
     requires { q * 32 + 32 ≤ length s.now }
     ensures { Top s.now q result }
 {
-    Node::of(kind(s, q), max_size(s, q), 0)
+    Node::new(kind(s, q), max_size(s, q), 0)
 }
 
-// b is placed in a at d. The pair is another at each turn, so it is passed one by one and in no struct.
+// b is placed in a at d: the source's function, with its parameters.
 #[cycle(merging)]
 pub fn merge_mem_at(
     table: &Table<'_>,
@@ -45,15 +45,12 @@ pub fn merge_mem_at(
                 });
             }
             Todo::Go => st = step(s, a, st, report),
-            Todo::Merge => {
+            Todo::Pair(how) => {
                 let here = report.at;
-                let r = merge_mem(table, s, st.x, st.m, report)?;
-                st = settle(st, here, r, report);
-            }
-            // Todo::Place
-            _ => {
-                let here = report.at;
-                let r = merge_mem_at(table, s, st.x, st.d, st.m, report)?;
+                let r = match how {
+                    Pairing::Place => merge_mem_at(table, s, st.x, st.d, st.m, report)?,
+                    Pairing::Merge => merge_mem(table, s, st.x, st.m, report)?,
+                };
                 st = settle(st, here, r, report);
             }
         }

@@ -19,12 +19,12 @@ use Rattle.place_states.specs.Ends.{finished_state}
 use Rattle.place_states.specs.declared.State.{State}
 use Rattle.place_states.proofs.Ending.{next_finished}
 use Rattle.place_states.proofs.Roots.{IsArray, is_array, left_array, right_array, right_size, right_command, right_plain}
-use Rattle.place_arrays.specs.Arrays.{Fits, Longer, Meets, element_state}
+use Rattle.place_arrays.specs.Arrays.{Fits, Longer, Meets, element_pairing, element_state}
 use Rattle.place_arrays.specs.declared.Meeting.{Meeting}
 use Rattle.place_arrays.specs.declared.Meeting.TheVariants.{Inside, Elements, Apart}
 use Rattle.place_arrays.proofs.Elements.{array_fits, array_merges, array_conflict}
 use Rattle.place_arrays.proofs.Strides.{array_argument}
-use Rattle.place_arrays.proofs.Pairing.{ahead_element, pending_element}
+use Rattle.place_arrays.proofs.Pairing.{pending_element}
 
 -- How the rule goes on, by what b does
 module _ (s : List ℕ) (rep : Report) (a d b : ℕ) (plain : Plain (command_in s b) d) (is : command_in s a ≡ 4)
@@ -35,11 +35,11 @@ module _ (s : List ℕ) (rep : Report) (a d b : ℕ) (plain : Plain (command_in 
   starts_inside r x st small inside ex e =
       let m : (r ≡ d % argument_in s a) × Fits s a d b true = rw inside at meets in
       rw (e, ex, m.0) (record {
-        next = λ setting t u r lo mid hi two short. ahead_element (go setting m.1 (left_array two is) u r lo mid hi two);
+        next = λ setting t u r lo mid hi two short. record { ahead = go setting m.1 (left_array two is) u r lo mid hi two };
       })
     where
       go : (setting : Setting) → Fits s a d b true → {t : Usage} → IsArray t → (u : Usage) (r : ℕ → ℕ) (lo mid hi : ℕ) → Two (length setting.table) s a b r lo mid hi t u
-          → Pending setting (after [] 1 (place_by_kind setting (place setting) t d u)) (ground s r lo hi rep) (nodes t + nodes u) s rep a (element_state (child_in s a) b (d % argument_in s a) rep.at)
+          → Pending (element_pairing (d % argument_in s a)) setting (after [] 1 (place_by_kind setting (place setting) t d u)) (ground s r lo hi rep) (nodes t + nodes u) s rep a (element_state (child_in s a) b (d % argument_in s a) rep.at)
       go setting fits (is_array z n v) u r lo mid hi two =
           let own : argument_in s a ≡ n = two.left.1 in
           rw own (pending_element setting s rep a (d % n) z n v r lo mid two.left two.left_fits small _ _ u b hi two.right two.right_fits two.few (omega arith)
@@ -52,11 +52,11 @@ module _ (s : List ℕ) (rep : Report) (a d b : ℕ) (plain : Plain (command_in 
       let longer : Longer s a d b true = rw elements at meets in
       let command : command_in s b ≡ 4 = (longer.strides.holds refl).1 in
       rw (e, ex, em) (record {
-        next = λ setting t u r lo mid hi two short. ahead_element (go setting longer (left_array two is) (right_array two command) r lo mid hi two);
+        next = λ setting t u r lo mid hi two short. record { ahead = go setting longer (left_array two is) (right_array two command) r lo mid hi two };
       })
     where
       go : (setting : Setting) → Longer s a d b true → {t u : Usage} → IsArray t → IsArray u → (r : ℕ → ℕ) (lo mid hi : ℕ) → Two (length setting.table) s a b r lo mid hi t u
-          → Pending setting (after [] 1 (place_by_kind setting (place setting) t d u)) (ground s r lo hi rep) (nodes t + nodes u) s rep a (element_state (child_in s a) (child_in s b) 0 rep.at)
+          → Pending (element_pairing 0) setting (after [] 1 (place_by_kind setting (place setting) t d u)) (ground s r lo hi rep) (nodes t + nodes u) s rep a (element_state (child_in s a) (child_in s b) 0 rep.at)
       go setting longer (is_array z n v) (is_array y k f) r lo mid hi two =
           let own : argument_in s a ≡ n = two.left.1 in
           let found = longer.strides.holds refl in

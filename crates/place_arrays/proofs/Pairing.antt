@@ -1,6 +1,6 @@
 -- The pair of rule 5: a's element, whose ranks are above a's root, and what goes into it.
 -- Assumes nothing.
-use Rattle.std.proofs.Common.{◌≡◌, ℕ, zero, suc, ◌+◌, ◌^◌, ◌<◌, ◌≤◌, List, [], length, refl, ◌∙◌, arith}
+use Rattle.std.proofs.Common.{◌≡◌, ℕ, suc, ◌+◌, ◌^◌, ◌<◌, ◌≤◌, List, [], length, refl, ◌∙◌, arith}
 use Rattle.definitions.specs.Limits.{node_limit}
 use Rattle.definitions.specs.Usage.{Size, Usage, array, nodes}
 use Rattle.definitions.specs.Table.{Setting}
@@ -11,25 +11,19 @@ use Rattle.links.specs.Standing.{Stands}
 use Rattle.links.proofs.Frames.{kept_none}
 use Rattle.report.proofs.Emitting.{emitted_nothing}
 use Rattle.report.specs.declared.Report.{Report}
-use Rattle.place_states.specs.Calls.{Ground, ground}
+use Rattle.place_states.specs.Calls.{ground}
 use Rattle.place_states.specs.Beyond.{element, act}
-use Rattle.place_states.specs.States.{Outside, Pending, Next}
+use Rattle.place_states.specs.States.{Outside, Pending}
 use Rattle.place_states.proofs.Room.{room_first}
-use Rattle.place_arrays.specs.Arrays.{element_todo, element_state}
+use Rattle.place_arrays.specs.Arrays.{element_pairing, element_state}
 use Rattle.place_arrays.proofs.Elements.{resume_element}
-
--- at each r the state asks for a pair
-pub ahead_element : {setting : Setting} {goal : Result Usage} {g : Ground} {n : ℕ} {s : List ℕ} {rep : Report} {a x m r at : ℕ} → Pending setting goal g n s rep a (element_state x m r at)
-    → Next setting goal g n s rep a (element_state x m r at)
-ahead_element {r = zero} Q = record { ahead = Q }
-ahead_element {r = suc r} Q = record { ahead = Q }
 
 -- a is an array, and f, at record m, has the ranks above it
 module _ (setting : Setting) (s : List ℕ) (rep : Report) (a d : ℕ) (z : Size) (n : ℕ) (e : Usage) (r : ℕ → ℕ) (lo mid : ℕ) (stands : Stands (array z n e) s a r lo mid)
     (fits : Storable (length setting.table) (array z n e)) (small : rep.at < 2 ^ 64) where
   pub pending_element : (goal : Result Usage) (all : ℕ) (f : Usage) (m hi : ℕ) → Stands f s m r mid hi → Storable (length setting.table) f
-      → nodes (array z n e) + nodes f ≤ node_limit → nodes (array z n e) + nodes f ≤ all → after [] 1 (under (array z n) (act setting (element_todo d) d e f)) ≡ goal
-      → Pending setting goal (ground s r lo hi rep) all s rep a (element_state (child_in s a) m d rep.at)
+      → nodes (array z n e) + nodes f ≤ node_limit → nodes (array z n e) + nodes f ≤ all → after [] 1 (under (array z n) (act setting (element_pairing d) d e f)) ≡ goal
+      → Pending (element_pairing d) setting goal (ground s r lo hi rep) all s rep a (element_state (child_in s a) m d rep.at)
   unfolding Stands Outside
   pending_element goal all f m hi f-stands f-fits few within is = record {
     y = element z n;
@@ -38,7 +32,7 @@ module _ (setting : Setting) (s : List ℕ) (rep : Report) (a d : ℕ) (z : Size
     p = 0;
     t = e;
     u = f;
-    comes = resume_element setting z n 0 (act setting (element_todo d) d e f) ∙ is;
+    comes = resume_element setting z n 0 (act setting (element_pairing d) d e f) ∙ is;
     within = omega arith;
     rank = r;
     kept = kept_none s r lo hi;

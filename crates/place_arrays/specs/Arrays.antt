@@ -7,8 +7,9 @@ use Rattle.place_states.specs.States.{Moves}
 use Rattle.place_states.specs.declared.Rule.TheVariants.{Element as ByElement}
 use Rattle.place_states.specs.declared.State.{State}
 use Rattle.place_states.specs.declared.TheConstants.State.{NONE}
-use Rattle.place_states.specs.declared.Todo.{Todo}
-use Rattle.place_states.specs.declared.Todo.TheVariants.{Place, Merge}
+use Rattle.place_states.specs.declared.Pairing.{Pairing}
+use Rattle.place_states.specs.declared.Pairing.TheVariants.{Place, Merge}
+use Rattle.place_states.specs.declared.Todo.TheVariants.{Pair}
 use Rattle.place_arrays.specs.declared.Meeting.{Meeting}
 use Rattle.place_arrays.specs.declared.Meeting.TheVariants.{Inside, Elements, Apart}
 
@@ -32,13 +33,13 @@ Meets s a d b Elements = Longer s a d b true
 Meets s a d b Apart = Longer s a d b false
 
 -- at 0 the pair is merged
-abbrev pub element_todo : ℕ → Todo
-element_todo zero = Merge
-element_todo (suc r) = Place
+abbrev pub element_pairing : ℕ → Pairing
+element_pairing zero = Merge
+element_pairing (suc r) = Place
 
 -- record x, and m that goes into it at r; the report began at `base`
 abbrev pub element_state : ℕ → ℕ → ℕ → ℕ → State
-element_state x m r base = record NONE { todo = element_todo r; rule = ByElement; x = x; m = m; d = r; pairings = 1; base = base; mark = base }
+element_state x m r base = record NONE { todo = Pair (element_pairing r); rule = ByElement; x = x; m = m; d = r; pairings = 1; base = base; mark = base }
 
 -- rule 5's array stands around what its element has become; nothing is reported here
 pub record Wrapped (s : List ℕ) (a : ℕ) (st : State) (s' : List ℕ) (st' : State) : Type 0 where

@@ -9,9 +9,9 @@ ghost use Rattle.report.specs.Emitted.{Emitted};
 ghost use Rattle.place_states.specs.Calls.{Beside};
 ghost use Rattle.place_states.specs.States.{Waiting};
 ghost use Rattle.place_states.specs.Starts.{Plain, Starts};
-ghost use Rattle.place_arrays.specs.Arrays.{HasStride, Meets, element_todo, element_state, Wrapped};
+ghost use Rattle.place_arrays.specs.Arrays.{HasStride, Meets, element_pairing, element_state, Wrapped};
 
-use place_states::{Rule, State, Todo};
+use place_states::{Pairing, Rule, State, Todo};
 use qptr::{Kind, MaxSize};
 use records::{argument, child, kind, max_size, put_child};
 use report::Report;
@@ -21,10 +21,7 @@ fn fits_stride(r: u32, b: MaxSize, stride: u32) -> bool
     requires { r ≤ stride }
     ensures { result ≡ fits_stride r (size_of b) stride }
 {
-    match b {
-        MaxSize::Dynamic => false,
-        MaxSize::Fixed(n) => n <= stride - r,
-    }
+    b <= MaxSize::Fixed(stride - r)
 }
 
 // Is r 0, and record q an array of this stride?
@@ -60,12 +57,12 @@ fn meeting_of(s: &[u8], a: usize, d: u32, b: usize) -> Meeting
 }
 
 // At 0 the pair is merged.
-fn todo_at(r: u32) -> Todo
-    ensures { result ≡ element_todo r }
+fn pairing_at(r: u32) -> Pairing
+    ensures { result ≡ element_pairing r }
 {
     match r {
-        0 => Todo::Merge,
-        _ => Todo::Place,
+        0 => Pairing::Merge,
+        _ => Pairing::Place,
     }
 }
 
@@ -74,7 +71,7 @@ fn with_element(x: usize, m: usize, r: u32, base: usize) -> State
     ensures { result ≡ element_state x m r base }
 {
     State {
-        todo: todo_at(r),
+        todo: Todo::Pair(pairing_at(r)),
         rule: Rule::Element,
         x,
         m,

@@ -1,7 +1,7 @@
 -- Placing the entries one by one is placing them all: reports and pairings add up in any order.
 -- Assumes nothing.
 use Rattle.std.proofs.Common.{◌≡◌, ℕ, suc, ◌+◌, List, [], append-nil, refl, sym, ap, arith}
-use Rattle.place_states.specs.declared.Todo.TheVariants.{Place}
+use Rattle.place_states.specs.declared.Pairing.TheVariants.{Place}
 use Rattle.definitions.specs.Usage.{Size, Usage, map, Entries, none, entry}
 use Rattle.definitions.specs.Table.{Setting}
 use Rattle.definitions.specs.Place.{Result, refused, done, of_entry, of_rule, headed, after, and_then, place_entries, place_by_kind, place}

@@ -20,7 +20,8 @@ use Rattle.place_states.specs.States.{Outside, Standing, Pending, Next, Short, W
 use Rattle.place_states.specs.Ends.{finished_state, Unheaded}
 use Rattle.place_states.specs.declared.State.{State}
 use Rattle.place_states.specs.declared.Rule.TheVariants.{Entries as ByEntries}
-use Rattle.place_states.specs.declared.Todo.TheVariants.{Place}
+use Rattle.place_states.specs.declared.Pairing.TheVariants.{Place}
+use Rattle.place_states.specs.declared.Todo.TheVariants.{Pair}
 use Rattle.place_states.proofs.Ending.{next_finished, moves_finished, emitted_unheaded}
 use Rattle.place_states.proofs.Falling.{row_falls}
 use Rattle.place_states.proofs.Outside.{IsEntries, is_entries, standing_entries, waiting_entries}
@@ -28,7 +29,7 @@ use Rattle.place_entries.proofs.Resuming.{finish_none, resume_entry}
 
 -- the state for the entry at record st.rest, whose offset is o; the report stood at `mark` before its 31
 abbrev pub entry_state : State → ℕ → ℕ → ℕ → State
-entry_state st o after mark = record st { todo = Place; d = o; m = st.rest; rest = after; mark = mark }
+entry_state st o after mark = record st { todo = Pair Place; d = o; m = st.rest; rest = after; mark = mark }
 
 module _ (s : List ℕ) (a : ℕ) (st : State) (W : Waiting s a st) (rule : st.rule ≡ ByEntries) (some : st.rest ≡ 0 → ⊥) where
   pub rest_inside : st.rest * 32 + 32 ≤ length s
@@ -67,7 +68,7 @@ module _ (s : List ℕ) (rep : Report) (a : ℕ) (st : State) (rule : st.rule �
     module _ (rep₁ : Report) (o after mark : ℕ) (em : mark ≡ rep.at) (some : st.rest ≡ 0 → ⊥) (eo : o ≡ offset_in s st.rest) (ea : after ≡ next_in s st.rest)
         (E : Emitted rep (0x31 ∷ bytes 4 o) rep₁) where
       goes_more : {y : Beyond} → IsEntries y → Standing (length setting.table) y u w p g s rep a st → nodes u + outer y ≤ n
-          → Pending setting (finish setting y u w p) g n s rep₁ a (entry_state st o after mark)
+          → Pending Place setting (finish setting y u w p) g n s rep₁ a (entry_state st o after mark)
       unfolding Stands Outside
       goes_more (is_entries none) S within = absurd (some S.outside.held.0)
       goes_more (is_entries (entry o' v es)) S within =

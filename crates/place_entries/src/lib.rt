@@ -7,7 +7,7 @@ ghost use Rattle.place_states.specs.Calls.{Beside};
 ghost use Rattle.place_states.specs.States.{Waiting, Moves};
 ghost use Rattle.place_states.specs.Starts.{Starts};
 
-use place_states::{Rule, State, Todo, drop_heading};
+use place_states::{Pairing, Rule, State, Todo, drop_heading};
 use records::{child, next, offset};
 use report::Report;
 
@@ -27,7 +27,7 @@ pub fn next_entry(s: &[u8], a: usize, st: State, report: &mut Report<'_>) -> Sta
     let mark = report.at;
     report.of_entry(o);
     State {
-        todo: Todo::Place,
+        todo: Todo::Pair(Pairing::Place),
         d: o,
         m: q,
         rest: after,

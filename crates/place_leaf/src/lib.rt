@@ -41,7 +41,7 @@ pub struct Kept {
     pub conflict: Option<Conflict>,
 }
 
-// The type of record q, if it is a leaf and d is 0.
+// The type of record q, if it is a leaf and d is 0. (`support::is_whole_leaf` has a type to compare with, and makes no Option.)
 fn type_at(s: &[u8], q: usize, d: u32) -> Option<u32>
     requires { q * 32 + 32 ≤ length s.now }
     ensures { TypeAt s.now q d result }
@@ -141,7 +141,7 @@ pub fn begin_leaf(
 {
     let kept = kept_type(table, s, a, d, b);
     let c = stricter(kind(s, a), kind(s, b));
-    put_type(s, a, c, kept.ty);
+    put_type(s, a, u16::from(c.command()), kept.ty);
     report_conflict(report, kept);
     State::finished(a, 1)
 }

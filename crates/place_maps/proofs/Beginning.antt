@@ -26,6 +26,7 @@ use Rattle.links.proofs.Rows.{down_none, rev_twice}
 use Rattle.links.proofs.Shapes.{map_of}
 use Rattle.report.specs.Emitted.{Emitted}
 use Rattle.report.specs.declared.Report.{Report}
+use Rattle.report.proofs.Emitting.{kept_nothing}
 use Rattle.place_states.specs.Calls.{Two, Beside}
 use Rattle.place_states.specs.Beyond.{joins, join_down, finish, UpTo, FromOn}
 use Rattle.place_states.specs.States.{Joins, Outside}
@@ -167,7 +168,7 @@ module _ {s : List ℕ} {a d b e : ℕ} (rep : Report) (P : Plain (command_in s 
   refuses why = record {
     next = λ setting t u r lo mid hi two short.
         let A = mapped two c in
-        ap (after [] 1) (into_map setting two A P ∙ why setting A.z A.es r (suc (r a)) mid u (rw (right_size two) at M) A.row A.finger A.fits);
+        (ap (after [] 1) (into_map setting two A P ∙ why setting A.z A.es r (suc (r a)) mid u (rw (right_size two) at M) A.row A.finger A.fits), kept_nothing rep);
   }
 
   pub refused_end : {r : Bool} → Past e r → r ≡ true → Starts s a d b rep s rep (Err Past32)

@@ -9,7 +9,7 @@ use Rattle.definitions.specs.Place.{ends}
 use Rattle.definitions.proofs.PlaceFuel.{merge_mem_is}
 use Rattle.records.specs.Records.{size_in}
 use Rattle.place_states.specs.Beyond.{act}
-use Rattle.place_states.specs.declared.Todo.TheVariants.{Place, Merge}
+use Rattle.place_states.specs.declared.Pairing.TheVariants.{Place, Merge}
 use Rattle.place_search.specs.Numbers.{Marks}
 use Rattle.place_search.proofs.Marking.{marks_le, marks_lt}
 use Rattle.place_maps.specs.Joining.{apart, into_entry, into_b, Joint}

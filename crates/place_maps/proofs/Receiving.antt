@@ -23,8 +23,9 @@ use Rattle.place_states.specs.Beyond.{joins, finish, outer, act}
 use Rattle.place_states.specs.States.{Joins, Outside, Standing, Pending, Waiting, Moves}
 use Rattle.place_states.specs.declared.State.{State}
 use Rattle.place_states.specs.declared.Rule.TheVariants.{Join as ByJoin}
-use Rattle.place_states.specs.declared.Todo.{Todo}
-use Rattle.place_states.specs.declared.Todo.TheVariants.{Place, Merge}
+use Rattle.place_states.specs.declared.Pairing.{Pairing}
+use Rattle.place_states.specs.declared.Pairing.TheVariants.{Place}
+use Rattle.place_states.specs.declared.Todo.TheVariants.{Pair}
 use Rattle.place_states.proofs.Framing.{outside_kept}
 use Rattle.place_states.proofs.Room.{spare_last}
 use Rattle.place_maps.specs.Joining.{into_entry, into_b, Joint, Paired}
@@ -38,7 +39,7 @@ module _ (s : List ℕ) (rep : Report) (a : ℕ) (st : State) (W : Waiting s a s
   paired pair = record pair { rest = next_in s pair.rest; mark = rep.at }
 
   abbrev entry_pair : State
-  entry_pair = record st { todo = Place; x = st.rest; d = st.offset - offset_in s st.rest; m = st.x; offset = offset_in s st.rest }
+  entry_pair = record st { todo = Pair Place; x = st.rest; d = st.offset - offset_in s st.rest; m = st.x; offset = offset_in s st.rest }
 
   pub entry_receives : {rep' : Report} {st' : State} → offset_in s st.rest < st.offset → Joint s st.rest st.x (offset_in s st.rest) st.offset (into_entry (offset_in s st.rest) st.offset)
       → Paired s rep entry_pair (offset_in s st.rest) rep' st' → Moves s rep a st s rep' st'
@@ -78,13 +79,13 @@ module _ (s : List ℕ) (rep : Report) (a : ℕ) (st : State) (W : Waiting s a s
         });
   })
 
-  abbrev b_pair : Todo → State
-  b_pair todo = record st { todo = todo; d = offset_in s st.rest - st.offset; m = st.rest }
+  abbrev b_pair : Pairing → State
+  b_pair how = record st { todo = Pair how; d = offset_in s st.rest - st.offset; m = st.rest }
 
-  module _ (todo : Todo) (Jt : Joint s st.rest st.x (offset_in s st.rest) st.offset (into_b todo (offset_in s st.rest) st.offset)) {rep' : Report} {st' : State} (P : Paired s rep (b_pair todo) (offset_in s st.rest) rep' st') where
+  module _ (how : Pairing) (Jt : Joint s st.rest st.x (offset_in s st.rest) st.offset (into_b how (offset_in s st.rest) st.offset)) {rep' : Report} {st' : State} (P : Paired s rep (b_pair how) (offset_in s st.rest) rep' st') where
     b_pending : (setting : Setting) (z : Size) (low mid high : Entries) (b : Usage) (w : List ℕ) (p : ℕ) (g : Ground) (n : ℕ) → nodes b + outer (joins z low mid high st.offset) ≤ n
         → (S : Standing (length setting.table) (joins z low mid high st.offset) b w p g s rep a st) → Joins (length setting.table) z low mid high st.offset s a st S.rank g.lo S.c S.e g.hi
-        → Pending setting (finish setting (joins z low mid high st.offset) b w p) g n s rep' a (paired (b_pair todo))
+        → Pending how setting (finish setting (joins z low mid high st.offset) b w p) g n s rep' a (paired (b_pair how))
     unfolding Outside into_b
     b_pending setting z low mid high b w p g n le S J =
         let o : ℕ = offset_in s st.rest in
@@ -108,7 +109,7 @@ module _ (s : List ℕ) (rep : Report) (a : ℕ) (st : State) (W : Waiting s a s
           p = p;
           t = b;
           u = A.u;
-          comes = resume_joins setting z low high init d o w p (act setting todo (o - d) b A.u) ∙ sym (finish_joint J setting b w p A S.stands Jt);
+          comes = resume_joins setting z low high init d o w p (act setting how (o - d) b A.u) ∙ sym (finish_joint J setting b w p A S.stands Jt);
           within = omega (arith, outer_less J A d);
           rank = r';
           kept = kept_trans g.bytes s s g.rank r r' g.lo g.hi S.kept (kept_widen s s r r' A.n S.e g.lo g.hi (omega (arith, J.root.low)) eh K);
@@ -129,12 +130,9 @@ module _ (s : List ℕ) (rep : Report) (a : ℕ) (st : State) (W : Waiting s a s
           based = S.based;
           mark = S.report.place;
           report = emitted_after S.report P.report;
-          outside = outside_kept (length setting.table) (joins z low init high d) s s a (paired (b_pair todo)) r r' g.lo A.n S.e g.hi (omega arith) K
+          outside = outside_kept (length setting.table) (joins z low init high d) s s a (paired (b_pair how)) r r' g.lo A.n S.e g.hi (omega arith) K
               (joins_next J A d _ e refl refl refl refl J.low_by J.high_from J.offset_fits);
         }
 
-  pub b_receives : {rep' : Report} {st' : State} → Joint s st.rest st.x (offset_in s st.rest) st.offset (into_b Place (offset_in s st.rest) st.offset) → Paired s rep (b_pair Place) (offset_in s st.rest) rep' st' → Moves s rep a st s rep' st'
-  b_receives Jt P = rw P.state (record { fall = omega (arith, falls s a st W e ne); next = by_joins _ _ _ _ _ _ _ e (λ setting z low mid high b w p g n le S J short. record { ahead = b_pending Place Jt P setting z low mid high b w p g n le S J }) })
-
-  pub b_merged : {rep' : Report} {st' : State} → Joint s st.rest st.x (offset_in s st.rest) st.offset (into_b Merge (offset_in s st.rest) st.offset) → Paired s rep (b_pair Merge) (offset_in s st.rest) rep' st' → Moves s rep a st s rep' st'
-  b_merged Jt P = rw P.state (record { fall = omega (arith, falls s a st W e ne); next = by_joins _ _ _ _ _ _ _ e (λ setting z low mid high b w p g n le S J short. record { ahead = b_pending Merge Jt P setting z low mid high b w p g n le S J }) })
+  pub b_pairs : (how : Pairing) {rep' : Report} {st' : State} → Joint s st.rest st.x (offset_in s st.rest) st.offset (into_b how (offset_in s st.rest) st.offset) → Paired s rep (b_pair how) (offset_in s st.rest) rep' st' → Moves s rep a st s rep' st'
+  b_pairs how Jt P = rw P.state (record { fall = omega (arith, falls s a st W e ne); next = by_joins _ _ _ _ _ _ _ e (λ setting z low mid high b w p g n le S J short. record { ahead = b_pending how Jt P setting z low mid high b w p g n le S J }) })

@@ -13,11 +13,12 @@ use Rattle.report.specs.declared.Report.{Report}
 use Rattle.place_states.specs.States.{Waiting, Moves}
 use Rattle.place_states.specs.declared.State.{State}
 use Rattle.place_states.specs.declared.Rule.TheVariants.{Join as ByJoin}
-use Rattle.place_states.specs.declared.Todo.TheVariants.{Place, Merge}
+use Rattle.place_states.specs.declared.Pairing.TheVariants.{Place, Merge}
+use Rattle.place_states.specs.declared.Todo.TheVariants.{Pair}
 use Rattle.place_search.specs.Numbers.{Marks}
 use Rattle.place_maps.specs.Joining.{Paired, Straddled}
 use Rattle.place_maps.proofs.Deciding.{straddles_below, straddles_above, entry_takes, b_takes, b_merges}
-use Rattle.place_maps.proofs.Receiving.{entry_receives, b_receives, b_merged}
+use Rattle.place_maps.proofs.Receiving.{entry_receives, b_pairs}
 use Rattle.place_maps.proofs.Ending.{straddles}
 
 module _ (s : List ℕ) (rep : Report) (a : ℕ) (st : State) (o y z : ℕ) {k : Ordering} (W : Waiting s a st) (e : st.rule ≡ ByJoin) (ne : st.rest ≡ 0 → ⊥) (eo : o ≡ offset_in s st.rest) (ek : k ≡ nat_cmp o st.offset) where
@@ -31,14 +32,14 @@ module _ (s : List ℕ) (rep : Report) (a : ℕ) (st : State) (o y z : ℕ) {k :
     pub upper_straddles : {s' : List ℕ} {rep' : Report} {st' : State} → k ≡ Greater → z < y → Straddled s rep a st o s' rep' st' → Moves s rep a st s' rep' st'
     upper_straddles ev less T = let lt = says Greater ev in straddles s rep a st e ne (straddles_above (rw eo at M) N (omega arith) less) (rw eo at T)
 
-    pub lower_receives : {d : ℕ} {rep' : Report} {st' : State} → k ≡ Less → z ≤ y → d ≡ st.offset - o → Paired s rep (record st { todo = Place; x = st.rest; d = d; m = st.x; offset = o }) o rep' st' → Moves s rep a st s rep' st'
+    pub lower_receives : {d : ℕ} {rep' : Report} {st' : State} → k ≡ Less → z ≤ y → d ≡ st.offset - o → Paired s rep (record st { todo = Pair Place; x = st.rest; d = d; m = st.x; offset = o }) o rep' st' → Moves s rep a st s rep' st'
     lower_receives ev le ed P = let lt = says Less ev in entry_receives s rep a st W e ne (omega arith) (entry_takes (rw eo at M) N (omega arith) le) (rw (ed, eo) at P)
 
-    pub upper_receives : {d : ℕ} {rep' : Report} {st' : State} → k ≡ Greater → y ≤ z → d ≡ o - st.offset → Paired s rep (record st { todo = Place; d = d; m = st.rest }) o rep' st' → Moves s rep a st s rep' st'
-    upper_receives ev le ed P = let lt = says Greater ev in b_receives s rep a st W e ne (b_takes (rw eo at M) N (omega arith) le) (rw (ed, eo) at P)
+    pub upper_receives : {d : ℕ} {rep' : Report} {st' : State} → k ≡ Greater → y ≤ z → d ≡ o - st.offset → Paired s rep (record st { todo = Pair Place; d = d; m = st.rest }) o rep' st' → Moves s rep a st s rep' st'
+    upper_receives ev le ed P = let lt = says Greater ev in b_pairs s rep a st W e ne Place (b_takes (rw eo at M) N (omega arith) le) (rw (ed, eo) at P)
 
-  pub equal_merges : {rep' : Report} {st' : State} → k ≡ Equal → Paired s rep (record st { todo = Merge; d = 0; m = st.rest }) o rep' st' → Moves s rep a st s rep' st'
+  pub equal_merges : {rep' : Report} {st' : State} → k ≡ Equal → Paired s rep (record st { todo = Pair Merge; d = 0; m = st.rest }) o rep' st' → Moves s rep a st s rep' st'
   equal_merges ev P =
       let same = says Equal ev in
       let none : 0 ≡ o - st.offset = omega arith in
-      b_merged s rep a st W e ne (b_merges s st.rest st.x (offset_in s st.rest) st.offset (omega arith) (omega arith)) (rw (none, eo) at P)
+      b_pairs s rep a st W e ne Merge (b_merges s st.rest st.x (offset_in s st.rest) st.offset (omega arith) (omega arith)) (rw (none, eo) at P)

@@ -15,7 +15,7 @@ use Rattle.report.specs.declared.Report.{Report}
 use Rattle.place_states.specs.Beyond.{act}
 use Rattle.place_states.specs.Ends.{finished_state}
 use Rattle.place_states.specs.declared.State.{State}
-use Rattle.place_states.specs.declared.Todo.{Todo}
+use Rattle.place_states.specs.declared.Pairing.{Pairing}
 
 -- where a state's records are
 pub record Within (s : List ℕ) (a : ℕ) (st : State) : Type 0 where
@@ -70,8 +70,8 @@ apart o d st u b w p = straddled none (straddle_conflict o d) p
 unfoldable pub into_entry : ℕ → ℕ → Setting → Usage → Usage → List ℕ → ℕ → Joining
 into_entry o d st u b w p = joined_at o o w p (place st u (d - o) b)
 
-unfoldable pub into_b : Todo → ℕ → ℕ → Setting → Usage → Usage → List ℕ → ℕ → Joining
-into_b todo o d st u b w p = joined_at d o w p (act st todo (o - d) b u)
+unfoldable pub into_b : Pairing → ℕ → ℕ → Setting → Usage → Usage → List ℕ → ℕ → Joining
+into_b how o d st u b w p = joined_at d o w p (act st how (o - d) b u)
 
 -- whatever they are, of the sizes that stand at l and x
 pub record Joint (s : List ℕ) (l x o d : ℕ) (f : Setting → Usage → Usage → List ℕ → ℕ → Joining) : Type 0 where

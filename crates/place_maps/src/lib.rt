@@ -1,5 +1,5 @@
 // Rule 6: placing in a map. The entries that overlap b are linked the other way round, so that b is joined with them from the
-// highest down; nothing moves.
+// highest down; nothing moves. A record of 0 is none, as in the links.
 #![tactic(auto)]
 
 ghost use Rattle.std.specs.Prelude.{◌≡◌, ◌+◌, ◌*◌, ◌<◌, ◌≤◌, length};
@@ -11,7 +11,7 @@ ghost use Rattle.place_maps.specs.Runs.{Run, Turned};
 ghost use Rattle.place_maps.specs.Joining.{Within, Passed, Linked, Closed, Entered, Paired, Straddled};
 
 use place_search::{end_at, overlapping, past32};
-use place_states::{Rule, SizeRefusal, State, Todo, drop_heading};
+use place_states::{Pairing, Rule, SizeRefusal, State, Todo, drop_heading};
 use records::{copy_record, next, offset, put_argument, put_child, put_next, put_offset};
 use report::Report;
 use std::cmp::Ordering;
@@ -45,7 +45,7 @@ fn link(s: &mut [u8], a: usize, low: usize, q: usize)
     }
 }
 
-// The same, and the finger of a is `low`.
+// The same, and the finger of a is `low`: the number of a record, which fits the 32 bits to which `as` cuts it, here and below.
 fn close(s: &mut [u8], a: usize, low: usize, q: usize)
     requires { (a * 32 + 32 ≤ length s.old) × (low * 32 + 32 ≤ length s.old) × (q < 65536) × (length s.old ≤ 2097152) }
     ensures { Closed s.old a low q s.new }
@@ -144,7 +144,7 @@ pub fn next_join(s: &mut [u8], a: usize, st: State, report: &mut Report<'_>) -> 
     match o.cmp(&d) {
         Ordering::Less if b_end <= entry_end => {
             let pair = State {
-                todo: Todo::Place,
+                todo: Todo::Pair(Pairing::Place),
                 x: entry,
                 d: d - o,
                 m: st.x,
@@ -155,7 +155,7 @@ pub fn next_join(s: &mut [u8], a: usize, st: State, report: &mut Report<'_>) -> 
         }
         Ordering::Equal => {
             let pair = State {
-                todo: Todo::Merge,
+                todo: Todo::Pair(Pairing::Merge),
                 d: 0,
                 m: entry,
                 ..st
@@ -164,7 +164,7 @@ pub fn next_join(s: &mut [u8], a: usize, st: State, report: &mut Report<'_>) -> 
         }
         Ordering::Greater if entry_end <= b_end => {
             let pair = State {
-                todo: Todo::Place,
+                todo: Todo::Pair(Pairing::Place),
                 d: o - d,
                 m: entry,
                 ..st

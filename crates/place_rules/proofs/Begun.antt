@@ -17,7 +17,7 @@ use Rattle.links.specs.Rows.{nodes_at}
 use Rattle.links.proofs.Stands.{stands_le, stands_wide}
 use Rattle.links.proofs.Frames.{kept_none}
 use Rattle.report.specs.declared.Report.{Report}
-use Rattle.report.proofs.Emitting.{emitted_nothing}
+use Rattle.report.proofs.Emitting.{emitted_nothing, kept_nothing}
 use Rattle.place_states.specs.Calls.{Two, Ready, Near, ground}
 use Rattle.place_states.specs.States.{Next, Short}
 use Rattle.place_states.specs.Starts.{Begins, Began}
@@ -76,7 +76,8 @@ module _ (table : Table) (s : List ℕ) (rep : Report) (a d b : ℕ) (za zb : Ma
 
   pub began_refused : (e : SizeRefusal) → number_of e ≡ size_refusal (size_of za) d (size_of zb) → Began table s a d b rep s rep (Err e)
   began_refused e ek = record {
-    next = λ setting known t u r lo mid hi two. by_sizes (number_of e) ek setting t u two ∙ refuses e (after [] 1 (place_by_kind setting (place setting) t d u));
+    next = λ setting known t u r lo mid hi two.
+        (by_sizes (number_of e) ek setting t u two ∙ refuses e (after [] 1 (place_by_kind setting (place setting) t d u)), kept_nothing rep);
   }
     where
       refuses : (e : SizeRefusal) (x : Result Usage) → unless_refused (number_of e) x ≡ refused (number_of e)

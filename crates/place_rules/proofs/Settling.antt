@@ -8,7 +8,7 @@ use Rattle.definitions.specs.Stream.{bytes}
 use Rattle.definitions.specs.Table.{Setting}
 use Rattle.definitions.specs.Place.{Result, of_entry}
 use Rattle.definitions.proofs.Reports.{of_entry as of_entry_lem}
-use Rattle.report.specs.Emitted.{Emitted}
+use Rattle.report.specs.Emitted.{Emitted, TakenBack}
 use Rattle.report.specs.declared.Report.{Report}
 use Rattle.report.proofs.Emitting.{emitted_back}
 use Rattle.place_states.specs.Calls.{Ground}
@@ -17,12 +17,12 @@ use Rattle.place_states.specs.States.{Outside, Next}
 use Rattle.place_states.specs.Taking.{Given, Took}
 use Rattle.place_states.specs.declared.State.{State}
 use Rattle.place_states.specs.declared.Merged.{Merged}
-use Rattle.place_rules.specs.Settling.{Unmarked, held_state, Settled}
+use Rattle.place_rules.specs.Settling.{held_state, Settled}
 
 -- with 31 and o before what the pair reported, or with neither
 entry_report : {r₀ r r' : Report} {here mark : ℕ} (w : List ℕ) (o : ℕ) (w' : List ℕ) → r₀.at + length w + length w' + 6 < 2 ^ 64
     → mark ≡ (r₀.at + length (0x30 ∷ w)) % 2 ^ 64 → here ≡ (r₀.at + length ((0x30 ∷ w) ++ (0x31 ∷ bytes 4 o))) % 2 ^ 64
-    → Emitted r₀ (((0x30 ∷ w) ++ (0x31 ∷ bytes 4 o)) ++ w') r → Unmarked here mark r r' → Emitted r₀ (0x30 ∷ (w ++ of_entry o w')) r'
+    → Emitted r₀ (((0x30 ∷ w) ++ (0x31 ∷ bytes 4 o)) ++ w') r → TakenBack here mark r r' → Emitted r₀ (0x30 ∷ (w ++ of_entry o w')) r'
 entry_report w o [] short em eh E U =
     let head : length ((0x30 ∷ w) ++ (0x31 ∷ bytes 4 o)) ≡ suc (length w) + 5 = length-append (0x30 ∷ w) (0x31 ∷ bytes 4 o) in
     let E₁ = simp append-nil at E in
@@ -33,7 +33,7 @@ entry_report w o (x ∷ xs) short em eh E U =
     rw (U.other (λ same. omega (arith, E.place))) (simp append_assoc at E)
 
 -- rule 5 heads nothing, so there is no 31 to be taken back
-unmarked_here : {here mark : ℕ} {r r' : Report} → here ≡ mark → Unmarked here mark r r' → r' ≡ r
+unmarked_here : {here mark : ℕ} {r r' : Report} → here ≡ mark → TakenBack here mark r r' → r' ≡ r
 unmarked_here {here} {r} e U = elim (ℕ_discrete r.at here) [
   | yes same ↦ U.empty same ∙ ap (λ (n : ℕ). record r { at = n }) (sym (same ∙ e))
   | no other ↦ U.other other
@@ -42,7 +42,7 @@ unmarked_here {here} {r} e U = elim (ℕ_discrete r.at here) [
 -- the reports of the rules
 goes_on : (y : Beyond) {k o : ℕ} {w : List ℕ} {p : ℕ} {g : Ground} {n : ℕ} {u : Usage} {w' : List ℕ} {p' : ℕ} {s : List ℕ} {rep rep' : Report} {a : ℕ} {st : State} {here : ℕ} {m : Merged}
     → Given k y o w p g n u w' p' s rep a st m → length w ≤ 14 * p → g.report.at < 2 ^ 63 → st.mark ≡ (g.report.at + length (heading y ++ w)) % 2 ^ 64
-    → here ≡ (g.report.at + length ((heading y ++ w) ++ entry_head y o)) % 2 ^ 64 → Unmarked here st.mark rep rep' → Emitted g.report (heading y ++ (w ++ marked y o w')) rep'
+    → here ≡ (g.report.at + length ((heading y ++ w) ++ entry_head y o)) % 2 ^ 64 → TakenBack here st.mark rep rep' → Emitted g.report (heading y ++ (w ++ marked y o w')) rep'
 goes_on (entries es) {o} {w} {w'} G brief near em eh U = entry_report w o w' (omega (arith, G.short, G.room)) em eh G.report U
 goes_on (element z n) {w} {g} {w'} {rep} G brief near em eh U =
     let E : Emitted g.report ((w ++ []) ++ w') rep = G.report in

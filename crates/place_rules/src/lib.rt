@@ -9,7 +9,7 @@ ghost use Rattle.links.specs.Rows.{nodes_at};
 ghost use Rattle.place_states.specs.Calls.{Ready, Near};
 ghost use Rattle.place_states.specs.States.{Waiting, Moves};
 ghost use Rattle.place_states.specs.Starts.{Plain, Begins, Began};
-ghost use Rattle.place_rules.specs.Settling.{number_in, Unmarked, Settled};
+ghost use Rattle.place_rules.specs.Settling.{number_in, Settled};
 
 use layout::Table;
 use place_arrays::{begin_array, next_element};
@@ -37,7 +37,8 @@ fn size_refusal(a: MaxSize, d: u32, b: MaxSize) -> Result<(), SizeRefusal>
     }
 }
 
-// Rules 3 to 6, by a's kind. The pair is another at each call, so it is passed one by one and in no struct.
+// Rules 3 to 6, by a's kind. What the rules take, here and in their crates, are the parameters of the source's `merge_mem_at`, handed on as it
+// has them.
 fn begin_into(
     table: &Table<'_>,
     s: &mut [u8],
@@ -95,20 +96,11 @@ pub fn begin(
     begin_with(table, s, a, d, b, report)
 }
 
-// Behind a pair, whose report began at `here`: its 31 is taken back if nothing was reported.
-fn drop_mark(report: &mut Report<'_>, here: usize, mark: usize)
-    ensures { Unmarked here mark report.old report.new }
-{
-    if report.at == here {
-        report.at = mark;
-    }
-}
-
-// The pair, whose report began at `here`, has become what r says, which stands in its place.
+// The pair, whose report began at `here`, has become what r says, which stands in its place. Its 31 is taken back if nothing was reported.
 pub fn settle(st: State, here: usize, r: Merged, report: &mut Report<'_>) -> State
     ensures { Settled st here r report.old report.new result }
 {
-    drop_mark(report, here, st.mark);
+    report.take_back(here, st.mark);
     State {
         todo: Todo::Go,
         x: r.node,

@@ -1,4 +1,5 @@
-// The entries of one map that overlap a range: found from the map's finger on, with a table searched downwards.
+// The entries of one map that overlap a range: found from the map's finger on, with a table searched downwards. A record of 0 is none, as in the
+// links.
 #![tactic(auto)]
 
 ghost use Rattle.std.specs.Prelude.{◌≡◌, ◌+◌, ◌*◌, ◌<◌, ◌≤◌, length, IfSome, IsSome};
@@ -14,10 +15,11 @@ ghost use Rattle.place_search.specs.Cutting.{Cuts, Between, AnyPast, Reaches, Fo
 use qptr::MaxSize;
 use records::{argument, child, max_size, next, offset};
 
-// The last number of 32 bits.
+// The last number of 32 bits. A constant calls no From, so it is `as`.
 const MAX32: u64 = u32::MAX as u64;
 
-// Where a dynamic size ends: larger than where anything of a fixed size can end, so that two ends are compared as two numbers.
+// Where a dynamic size ends: larger than where anything of a fixed size can end, so that two ends are compared as two numbers: an enum would
+// be compared by its cases first.
 const DYNAMIC: u64 = 0x1_0000_0000_0000;
 
 // The rows of a small table, which is cheap to clear; one is left over.
@@ -35,7 +37,7 @@ pub struct Overlap {
     pub above: usize,
 }
 
-// A table's row: the entry at record `node`.
+// A table's row: the entry at record `node`, which fits 16 bits; `as` cuts it without a test.
 #[derive(Clone, Copy)]
 pub struct Entry {
     pub offset: u32,
@@ -94,7 +96,7 @@ impl Entry {
     }
 }
 
-// The record of the topmost entry that ends by d, and 0 where none does.
+// The record of the topmost entry that ends by d, and 0 where none does. Document 01 has it over a table that is lent.
 pub fn top(entries: &[Entry], d: u32) -> u16
     ensures { result ≡ top_of entries.now (length entries.now) d }
 {
@@ -184,7 +186,8 @@ struct Cut {
     above: usize,
 }
 
-// The entries from record q on, in a table of N rows. None: as many as the table has rows start before e, or more.
+// The entries from record q on, in a table of N rows, an array, since there is no heap. None: as many as the table has rows start before e,
+// or more.
 fn cut_in<const N: usize>(s: &[u8], q: usize, range: Range) -> Option<Cut>
     requires linked { Linked s.now q 0 }
     requires rows { N ≤ 512 }
@@ -254,7 +257,8 @@ fn behind(s: &[u8], from: Reached, range: Range) -> Option<Overlap>
 }
 
 // The entries of the map at record a that overlap what starts at d and ends at e. None: one of them ends past 32 bits. The search starts
-// behind the map's finger, if that entry starts before e and ends by d, since then no entry before it overlaps; and else at the first.
+// behind the map's finger, if that entry starts before e and ends by d, since then no entry before it overlaps; and else at the first. The
+// finger is kept in 32 bits, of which `usize` has no From.
 pub fn overlapping(s: &[u8], a: usize, d: u32, e: u64) -> Option<Overlap>
     requires { Listed s.now a }
     ensures { Parts s.now a d e result }

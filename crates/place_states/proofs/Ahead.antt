@@ -10,8 +10,9 @@ use Rattle.place_states.specs.Calls.{Ground, Done}
 use Rattle.place_states.specs.Ends.{merged_of}
 use Rattle.place_states.specs.States.{Held, Pending, Ahead, Next}
 use Rattle.place_states.specs.declared.State.{State}
+use Rattle.place_states.specs.declared.Pairing.{Pairing}
 use Rattle.place_states.specs.declared.Todo.{Todo}
-use Rattle.place_states.specs.declared.Todo.TheVariants.{Finished, Go, Place, Merge}
+use Rattle.place_states.specs.declared.Todo.TheVariants.{Finished, Go, Pair}
 
 module _ {setting : Setting} {goal : Result Usage} {g : Ground} {n : ℕ} {s : List ℕ} {rep : Report} {a : ℕ} {st : State} (N : Next setting goal g n s rep a st) where
   ahead_at : (v : Todo) → st.todo ≡ v → Ahead v setting goal g n s rep a st
@@ -23,8 +24,5 @@ module _ {setting : Setting} {goal : Result Usage} {g : Ground} {n : ℕ} {s : L
   pub next_holds : st.todo ≡ Go → Held setting goal g n s rep a st
   next_holds e = ahead_at Go e
 
-  pub next_place : st.todo ≡ Place → Pending setting goal g n s rep a st
-  next_place e = ahead_at Place e
-
-  pub next_merge : st.todo ≡ Merge → Pending setting goal g n s rep a st
-  next_merge e = ahead_at Merge e
+  pub next_pair : {how : Pairing} → st.todo ≡ Pair how → Pending how setting goal g n s rep a st
+  next_pair {how} e = ahead_at (Pair how) e

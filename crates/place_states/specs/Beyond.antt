@@ -6,8 +6,8 @@ use Rattle.definitions.specs.Stream.{bytes}
 use Rattle.definitions.specs.Table.{Setting}
 use Rattle.definitions.specs.Place.{Result, refused, done, after, headed, of_entry, Joining, joined, rebuilt, place_entries, join_next, place, merge_mem}
 use Rattle.definitions.specs.Inner.Pairs.{pairs_in}
-use Rattle.place_states.specs.declared.Todo.{Todo}
-use Rattle.place_states.specs.declared.Todo.TheVariants.{Finished, Go, Place, Merge}
+use Rattle.place_states.specs.declared.Pairing.{Pairing}
+use Rattle.place_states.specs.declared.Pairing.TheVariants.{Place, Merge}
 
 -- What stays outside of the pair: rule 2's entries that are still to be placed; rule 5's array around the element, its size and
 -- stride; rule 6's map: its size, the entries below, those still to be joined, those above, and the offset of the pair's result.
@@ -49,10 +49,8 @@ unfoldable pub resume : Setting → Beyond → ℕ → List ℕ → ℕ → Resu
 resume st y o w p (refused k) = refused k
 resume st y o w p (done u w' p') = finish st y u (w ++ marked y o w') (p + p')
 
--- what the pair gives: it is merged, or else the second is placed in the first at d
-unfoldable pub act : Setting → Todo → ℕ → Usage → Usage → Result Usage
-act st Finished d t u = place st t d u
-act st Go d t u = place st t d u
+-- what the pair gives: the second is placed in the first at d, or they are merged
+unfoldable pub act : Setting → Pairing → ℕ → Usage → Usage → Result Usage
 act st Place d t u = place st t d u
 act st Merge d t u = merge_mem st t u
 

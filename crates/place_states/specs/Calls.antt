@@ -10,7 +10,7 @@ use Rattle.links.specs.Standing.{Stands}
 use Rattle.links.specs.Frames.{Kept}
 use Rattle.layout.specs.declared.Table.{Table}
 use Rattle.layout.specs.Places.{Known}
-use Rattle.report.specs.Emitted.{Emitted}
+use Rattle.report.specs.Emitted.{Emitted, SameBuffer}
 use Rattle.report.specs.declared.Report.{Report}
 use Rattle.place_states.specs.Refusals.{number_of}
 use Rattle.place_states.specs.declared.Merged.{Merged}
@@ -81,9 +81,9 @@ pub record Answered (u : Usage) (w : List ℕ) (q : ℕ) (g : Ground) (s : List 
   pub pairs : m.pairings ≡ q % 2 ^ 32
   pub report : Emitted g.report w rep
 
--- what is left, where the definition gives y
+-- what is left, where the definition gives y; where that is a refusal, the report is in its buffer at least
 abbrev pub Done : Result Usage → Ground → List ℕ → Returned Merged SizeRefusal → Report → Type 0
-Done (refused k) g s (Err e) rep = number_of e ≡ k
+Done (refused k) g s (Err e) rep = (number_of e ≡ k) × SameBuffer g.report rep
 Done (refused k) g s (Ok m) rep = ⊥
 Done (done u w q) g s (Err e) rep = ⊥
 Done (done u w q) g s (Ok m) rep = Answered u w q g s m rep

@@ -1,6 +1,7 @@
 -- States that are finished, and how the report then ends.
 -- Assumes nothing.
-use Rattle.std.specs.Prelude.{◌≡◌, ℕ, ◌+◌, ◌%◌, ◌^◌, ◌≢◌}
+use Rattle.std.specs.Prelude.{ℕ, ◌+◌, ◌%◌, ◌^◌}
+use Rattle.report.specs.Emitted.{TakenBack}
 use Rattle.report.specs.declared.Report.{Report}
 use Rattle.place_states.specs.declared.Merged.{Merged}
 use Rattle.place_states.specs.declared.State.{State}
@@ -15,6 +16,5 @@ abbrev pub merged_of : State → Merged
 merged_of st = record { node = st.x; pairings = st.pairings }
 
 -- how a report r that began at `base` goes on: a 30 with nothing behind it is taken back
-pub record Unheaded (base : ℕ) (r r' : Report) : Type 0 where
-  pub empty : r.at ≡ (base + 1) % 2 ^ 64 → r' ≡ record r { at = base }
-  pub other : (r.at ≢ (base + 1) % 2 ^ 64) → r' ≡ r
+abbrev pub Unheaded : ℕ → Report → Report → Type 0
+Unheaded base r r' = TakenBack ((base + 1) % 2 ^ 64) base r r'

@@ -6,6 +6,7 @@ use Rattle.definitions.specs.Table.{Setting}
 use Rattle.definitions.specs.Place.{Result, refused, after, place_by_kind, place}
 use Rattle.layout.specs.declared.Table.{Table}
 use Rattle.layout.specs.Places.{Known}
+use Rattle.report.specs.Emitted.{SameBuffer}
 use Rattle.report.specs.declared.Report.{Report}
 use Rattle.place_states.specs.Refusals.{number_of}
 use Rattle.place_states.specs.Calls.{Two, Ground, ground}
@@ -18,9 +19,9 @@ pub record Plain (c d : ℕ) : Type 0 where
   pub used : c ≡ 0 → ⊥
   pub no_map : c ≡ 3 → d ≢ 0
 
--- a refusal is the goal's, and a state stands for what is left of the goal
+-- a refusal is the goal's, with the report in its buffer, and a state stands for what is left of the goal
 abbrev pub Opens : Setting → Result Usage → Ground → ℕ → List ℕ → Report → ℕ → Returned State SizeRefusal → Type 0
-Opens setting goal g n s rep a (Err e) = goal ≡ refused (number_of e)
+Opens setting goal g n s rep a (Err e) = (goal ≡ refused (number_of e)) × SameBuffer g.report rep
 Opens setting goal g n s rep a (Ok st) = Next setting goal g n s rep a st
 
 -- `place_by_kind`, with this placing's own pairing

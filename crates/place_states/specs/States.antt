@@ -18,15 +18,17 @@ use Rattle.place_states.specs.Beyond.{Beyond, entries, element, joins, finish, h
 use Rattle.place_states.specs.Ends.{merged_of}
 use Rattle.place_states.specs.declared.State.{State}
 use Rattle.place_states.specs.declared.Rule.TheVariants.{Entries as ByEntries, Element as ByElement, Join as ByJoin}
+use Rattle.place_states.specs.declared.Pairing.{Pairing}
+use Rattle.place_states.specs.declared.Pairing.TheVariants.{Merge}
 use Rattle.place_states.specs.declared.Todo.{Todo}
-use Rattle.place_states.specs.declared.Todo.TheVariants.{Finished, Go, Place, Merge}
+use Rattle.place_states.specs.declared.Todo.TheVariants.{Finished, Go, Pair}
 
 -- Where what is outside of the pair stands. The pair, or its result, has the ranks from c to e; all has those from lo to hi. The
 -- placing's receiver, where it is an array or a map, is record a.
 
 pub record Placing (k : ℕ) (es : Entries) (s : List ℕ) (st : State) (r : ℕ → ℕ) (lo c e hi : ℕ) : Type 0 where
   pub rule : st.rule ≡ ByEntries
-  pub asks : st.todo ≡ Merge → ⊥
+  pub asks : st.todo ≡ Pair Merge → ⊥
   pub low : lo ≤ c
   pub held : Row es s st.rest 0 r e hi
   pub lowest : ℕ
@@ -91,15 +93,15 @@ pub record Held (setting : Setting) (goal : Result Usage) (g : Ground) (n : ℕ)
   pub within : nodes u + outer y ≤ n
   pub standing : Standing (length setting.table) y u w p g s rep a st
 
--- A pair stands at x and m, and with it the goal will be reached.
-pub record Pending (setting : Setting) (goal : Result Usage) (g : Ground) (n : ℕ) (s : List ℕ) (rep : Report) (a : ℕ) (st : State) : Type 0 where
+-- A pair stands at x and m, and with what is done with it the goal will be reached.
+pub record Pending (how : Pairing) (setting : Setting) (goal : Result Usage) (g : Ground) (n : ℕ) (s : List ℕ) (rep : Report) (a : ℕ) (st : State) : Type 0 where
   pub y : Beyond
   pub o : ℕ
   pub w : List ℕ
   pub p : ℕ
   pub t : Usage
   pub u : Usage
-  pub comes : resume setting y o w p (act setting st.todo st.d t u) ≡ goal
+  pub comes : resume setting y o w p (act setting how st.d t u) ≡ goal
   pub within : nodes t + nodes u + outer y ≤ n
   pub rank : ℕ → ℕ
   pub kept : Kept g.bytes g.rank s rank g.lo g.hi
@@ -125,8 +127,7 @@ Short base (done u w p) = (base + length w < 2 ^ 63) × (base + 14 * p < 2 ^ 63)
 abbrev pub Ahead : Todo → Setting → Result Usage → Ground → ℕ → List ℕ → Report → ℕ → State → Type 0
 Ahead Finished setting goal g n s rep a st = Done goal g s (Ok (merged_of st)) rep
 Ahead Go setting goal g n s rep a st = Held setting goal g n s rep a st
-Ahead Place setting goal g n s rep a st = Pending setting goal g n s rep a st
-Ahead Merge setting goal g n s rep a st = Pending setting goal g n s rep a st
+Ahead (Pair how) setting goal g n s rep a st = Pending how setting goal g n s rep a st
 
 pub record Next (setting : Setting) (goal : Result Usage) (g : Ground) (n : ℕ) (s : List ℕ) (rep : Report) (a : ℕ) (st : State) : Type 0 where
   pub ahead : Ahead st.todo setting goal g n s rep a st
@@ -135,8 +136,7 @@ pub record Next (setting : Setting) (goal : Result Usage) (g : Ground) (n : ℕ)
 abbrev pub turns : Todo → ℕ
 turns Finished = 0
 turns Go = 1
-turns Place = 2
-turns Merge = 2
+turns (Pair how) = 2
 
 -- What the next step of a rule may assume: something stands at x, and what is outside of it.
 pub record Waiting (s : List ℕ) (a : ℕ) (st : State) : Type 0 where

@@ -32,13 +32,19 @@ pub struct Merged {
     pub pairings: u32,
 }
 
+// What is done with a pair: m is put into x at d, or both are merged.
+#[derive(Clone, Copy, PartialEq, Eq)]
+pub enum Pairing {
+    Place,
+    Merge,
+}
+
 // What the loop of a placing does next.
 #[derive(Clone, Copy, PartialEq, Eq)]
 pub enum Todo {
     Finished,
     Go, // on from what stands
-    Place, // the pair
-    Merge, // the pair
+    Pair(Pairing),
 }
 
 // The rule that a placing goes by, if it has more than one pair to treat or something to put around it: rules 2, 5 and 6.
@@ -49,8 +55,9 @@ pub enum Rule {
     Join,
 }
 
-// What a placing has yet to do. A pair: x, and m, which goes into it at d. Or what the pairs so far have come to: x. The widest fields
-// stand first: without a gap between them a state is copied in whole pieces.
+// What a placing has yet to do. A pair: x and m. Or what the pairs so far have come to: x. The widest fields
+// stand first: without a gap between them a state is copied in whole pieces. It is one struct for all rules, so that a turn changes the fields
+// that it has to: with a case for each rule, every turn would take it apart. A record of 0 is none, as in the links.
 #[derive(Clone, Copy)]
 pub struct State {
     pub x: usize, // if finished, the result
@@ -99,7 +106,5 @@ impl State {
 pub fn drop_heading(report: &mut Report<'_>, base: usize)
     ensures { Unheaded base report.old report.new }
 {
-    if report.at == base.wrapping_add(1) {
-        report.at = base;
-    }
+    report.take_back(base.wrapping_add(1), base);
 }
