@@ -1,7 +1,7 @@
 -- Whatever was reached is given back: the usage that stands, as it is written, with its report and pairings.
 -- Assumes nothing.
 use Prim.Native.Nat.{ℕ, ◌+◌, ◌*◌, ◌-◌, ◌<◌, ◌≤◌}
-use mathlib.Core.Path.{◌≡◌, refl, ap, ◌∙◌}
+use mathlib.Core.Path.{◌≡◌, ap, ◌∙◌}
 use mathlib.Core.List.{List, ◌∷◌, ◌++◌}
 use native.Mathlib.Nat.{zero-add}
 use native.Mathlib.Omega.{arith}
@@ -10,23 +10,28 @@ use lib.Seq.{sets, length-sets, sets-eq}
 use Rattle.definitions.specs.Usage.{Usage}
 use Rattle.definitions.specs.Stream.{write_node}
 use Rattle.definitions.specs.Place.{Result, refused, done, under}
-use Rattle.std.specs.Prelude.{Result as Returned, Ok, Err}
+use Rattle.std.specs.Prelude.{Result as Returned, Ok, Err, OnOk, OnErr}
 use Rattle.definitions.specs.Calls.{written}
 use Rattle.place_states.specs.declared.Merged.{Merged}
+use Rattle.place_states.specs.declared.SizeRefusal.{SizeRefusal}
+use Rattle.place_states.specs.Refusals.{number_of as size_number}
+use Rattle.report.specs.Emitted.{SameBuffer}
 use Rattle.report.specs.declared.Report.{Report}
+use Rattle.report.proofs.Emitting.{kept_nothing, kept_both}
 use Rattle.links.proofs.Stands.{stands_root}
 use Rattle.transfer_out.specs.Writing.{Readable, Fitting, LengthIs, UsagePut}
-use Rattle.answers.specs.Writing.{Comes, Stood, Reached, Reachable, Finished}
+use Rattle.answers.specs.Answers.{number_of}
+use Rattle.answers.specs.Writing.{Gives, Comes, Stood, Reached, Reachable, Finished}
 use Rattle.answers.specs.declared.Refusal.{Refusal}
 use Rattle.answers.specs.declared.Refusal.TheVariants.{ShortOutput, ShortReport}
 use Rattle.answers.specs.declared.Written.{Written}
 use Rattle.answers.proofs.Lengths.{written_bytes}
-use Rattle.answers.proofs.Giving.{comes_10, comes_11, comes_written}
+use Rattle.answers.proofs.Giving.{comes_kept, comes_10, comes_11, comes_written, gives_cleared}
 
 -- The usage that stands
 
-pub standing : {work : List ℕ} {m : Merged} {report : Report} → Reachable work m report → Readable work m.node
-standing {work} {m} {report} R = go R.result R.reached
+pub standing : {work : List ℕ} {r : Returned Merged SizeRefusal} {m : Merged} {report : Report} → r ≡ Ok m → Reachable work r report → Readable work m.node
+standing {work} {m = m} {report} is R = go R.result (rw is at R.reached)
   where
     go : (x : Result Usage) → Reached x work (Ok m) report → Readable work m.node
     go (refused k) reached = absurd reached
@@ -65,12 +70,22 @@ first_put bs output room = sets-eq bs output 0 (omega arith) ∙ ap (λ k. bs ++
 length_of : {work : List ℕ} {m : Merged} {l : ℕ} → LengthIs work m.node l → {u : Usage} {w : List ℕ} {p : ℕ} {report : Report} (top : ℕ) → Stood u w p work m report → 1 + l ≡ length (top ∷ write_node u)
 length_of long {u} top S = omega (arith, long.of u S.rank S.lo S.hi S.stands)
 
+-- a refusal by size is told as such
+pub finished_refused : {top : ℕ} {e : SizeRefusal} {work output : List ℕ} {report : Report} {e' : Refusal} → number_of e' ≡ size_number e
+    → Finished Comes top (Err e) work output report (Err e') output report
+finished_refused {top} {e} {work} {output} {report} {e'} same = record { of = go; kept = kept_nothing report }
+  where
+    go : (x : Result Usage) → Reached x work (Err e) report
+        → Comes (written output (length report.buffer.now) (under (λ u. top ∷ write_node u) x)) (Err e') output report.buffer.now
+    go (refused k) is = comes_kept output (length report.buffer.now) (same ∙ is)
+    go (done u w p) is = absurd is
+
 module _ {top : ℕ} {m : Merged} {work output : List ℕ} {report : Report} where
-  finished_by : (r : Returned Written Refusal) {output' : List ℕ} {report' : Report} → report'.buffer.ghost_name ≡ report.buffer.ghost_name
+  finished_by : (r : Returned Written Refusal) {output' : List ℕ} {report' : Report} → SameBuffer report report'
       → ((u : Usage) (w : List ℕ) (p : ℕ) → Stood u w p work m report
       → Comes (written output (length report.buffer.now) (done (top ∷ write_node u) w p)) r output' report'.buffer.now)
-      → Finished top m work output report r output' report'
-  finished_by r {output'} {report'} same of = record { of = go; same_buffer = same }
+      → Finished Comes top (Ok m) work output report r output' report'
+  finished_by r {output'} {report'} same of = record { of = go; kept = same }
     where
       go : (x : Result Usage) → Reached x work (Ok m) report
           → Comes (written output (length report.buffer.now) (under (λ u. top ∷ write_node u) x)) r output' report'.buffer.now
@@ -78,23 +93,35 @@ module _ {top : ℕ} {m : Merged} {work output : List ℕ} {report : Report} whe
       go (done u w p) S = of u w p S
 
   module _ {l : ℕ} (long : LengthIs work m.node l) where
-    pub finished_10 : length output < 1 + l → Finished top m work output report (Err ShortOutput) output report
-    finished_10 short = finished_by (Err ShortOutput) refl λ u w p S.
+    pub finished_10 : length output < 1 + l → Finished Comes top (Ok m) work output report (Err ShortOutput) output report
+    finished_10 short = finished_by (Err ShortOutput) (kept_nothing report) λ u w p S.
         comes_10 output (length report.buffer.now) (top ∷ write_node u) w p (omega (arith, length_of long top S))
 
     module _ (room : 1 + l ≤ length output) where
-      pub finished_11 : length report.buffer.now < report.at → Finished top m work output report (Err ShortReport) output report
-      finished_11 short = finished_by (Err ShortReport) refl λ u w p S.
+      pub finished_11 : length report.buffer.now < report.at → Finished Comes top (Ok m) work output report (Err ShortReport) output report
+      finished_11 short = finished_by (Err ShortReport) (kept_nothing report) λ u w p S.
           comes_11 output (length report.buffer.now) (top ∷ write_node u) w p (omega (arith, length_of long top S)) (omega (arith, S.length_is))
 
       pub finished_written : {output' : List ℕ} {report' : Report} {e : ℕ} → report.at ≤ length report.buffer.now
           → UsagePut work m.node (set output 0 top) 1 output' e
           → report'.buffer.now ≡ take report.at report.buffer.now ++ replicate (length report.buffer.now - report.at) 0
-          → report'.buffer.ghost_name ≡ report.buffer.ghost_name
-          → Finished top m work output report (Ok (record { usage = 1 + l; report = report.at; pairings = m.pairings })) output' report'
+          → SameBuffer report report'
+          → Finished Comes top (Ok m) work output report (Ok (record { usage = 1 + l; report = report.at; pairings = m.pairings })) output' report'
       finished_written enough put zeroed same =
           finished_by _ same λ u w p S.
           comes_written output (length report.buffer.now) (top ∷ write_node u) w p (omega (arith, length_of long top S)) (omega (arith, S.length_is))
           (record { usage = 1 + l; report = report.at; pairings = m.pairings }) (length_of long top S) S.length_is S.pairs
           ((put.of u S.rank S.lo S.hi S.stands).stored ∙ first_put (top ∷ write_node u) output (omega (arith, length_of long top S)))
           (zeroed ∙ rw (S.length_is, S.bytes (omega (arith, S.length_is))))
+
+-- The report of a refused call is cleared
+
+pub finished_cleared : {top : ℕ} {m : Returned Merged SizeRefusal} {work output : List ℕ} {report report₁ report' : Report} (r : Returned Written Refusal) {r' : Returned Written Refusal} {output' : List ℕ}
+    → Finished Comes top m work output report r output' report₁ → SameBuffer report₁ report' → r' ≡ r
+    → OnOk r (report'.buffer.now ≡ report₁.buffer.now) → OnErr r (report'.buffer.now ≡ replicate (length report₁.buffer.now) 0)
+    → Finished Gives top m work output report r' output' report'
+finished_cleared {top} {output = output} {report = report} r comes kept same answered zeroed = record {
+  of = λ x reached.
+      gives_cleared output (length report.buffer.now) (under (λ u. top ∷ write_node u) x) r (comes.of x reached) comes.kept.size same answered zeroed;
+  kept = kept_both comes.kept kept;
+}

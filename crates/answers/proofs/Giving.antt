@@ -12,10 +12,11 @@ use Rattle.definitions.specs.If.{when◌then◌else◌}
 use Rattle.definitions.specs.Place.{Result, refused, done}
 use Rattle.definitions.specs.Calls.{Answer as Told, Written as Left, refusal, kept, written}
 use Rattle.definitions.proofs.Choice.{decide}
+use Rattle.place_states.specs.declared.SizeRefusal.TheVariants.{Outgrown, Past32}
 use Rattle.answers.specs.Answers.{number_of, told_of}
 use Rattle.answers.specs.Writing.{Gives, Comes}
 use Rattle.answers.specs.declared.Refusal.{Refusal}
-use Rattle.answers.specs.declared.Refusal.TheVariants.{ShortWork, BadTable, BadFirst, BadSecond, UnknownType, NotConcrete, ManyNodes, Outgrown, Past32, ShortOutput, ShortReport}
+use Rattle.answers.specs.declared.Refusal.TheVariants.{ShortWork, BadTable, BadFirst, BadSecond, UnknownType, NotConcrete, ManyNodes, Size, ShortOutput, ShortReport}
 use Rattle.answers.specs.declared.Written.{Written}
 
 -- no refusal has the number of what is answered
@@ -27,8 +28,8 @@ some_number BadSecond = omega arith
 some_number UnknownType = omega arith
 some_number NotConcrete = omega arith
 some_number ManyNodes = omega arith
-some_number Outgrown = omega arith
-some_number Past32 = omega arith
+some_number (Size Outgrown) = omega arith
+some_number (Size Past32) = omega arith
 some_number ShortOutput = omega arith
 some_number ShortReport = omega arith
 
@@ -36,6 +37,10 @@ module _ (output : List ℕ) (n : ℕ) where
   -- a refusal's numbers, and the output as it was
   pub comes_kept : {e : Refusal} {k : ℕ} {report : List ℕ} → number_of e ≡ k → Comes (kept k output n) (Err e) output report
   comes_kept is = record { numbers = ap refusal is; usage = refl; reported = tt }
+
+  -- the same, with a report of zeros
+  pub gives_kept : {e : Refusal} {r : Returned Written Refusal} {report : List ℕ} → r ≡ Err e → report ≡ replicate n 0 → Gives (kept (number_of e) output n) r output report
+  gives_kept is zeroed = record { numbers = ap told_of is; usage = refl; reported = zeroed }
 
   module _ (bs w : List ℕ) (p : ℕ) where
     pub comes_10 : {report : List ℕ} → length output < length bs → Comes (written output n (done bs w p)) (Err ShortOutput) output report

@@ -2,26 +2,21 @@
 -- wraps.
 -- Assumes nothing.
 use Prim.Native.Nat.{ℕ, ◌*◌, ◌≤◌}
-use mathlib.Core.Path.{◌≡◌, refl, ◌∙◌}
+use mathlib.Core.Path.{◌≡◌, refl}
 use mathlib.Core.List.{List}
 use native.Mathlib.Omega.{arith}
 use native.Mathlib.Nat.{mul-le-mul}
 use Rattle.std.specs.Prelude.{Result as Returned, Ok, Err}
 use Rattle.definitions.specs.Limits.{node_limit}
 use Rattle.definitions.specs.Usage.{Usage, nodes}
-use Rattle.definitions.specs.Place.{Result, refused, done, under}
-use Rattle.definitions.specs.Calls.{written}
+use Rattle.definitions.specs.Place.{Result, refused, done}
 use Rattle.definitions.proofs.FewPairings.{Few}
 use Rattle.report.specs.declared.Report.{Report}
 use Rattle.report.proofs.Emitting.{emitted_all}
 use Rattle.place_states.specs.Calls.{Ground, Done, Answered}
 use Rattle.place_states.specs.declared.SizeRefusal.{SizeRefusal}
 use Rattle.place_states.specs.declared.Merged.{Merged}
-use Rattle.place_states.specs.Refusals.{number_of as size_number}
-use Rattle.answers.specs.Answers.{number_of}
-use Rattle.answers.specs.Writing.{Comes, Reached, Stood}
-use Rattle.answers.specs.declared.Refusal.{Refusal}
-use Rattle.answers.proofs.Giving.{comes_kept}
+use Rattle.answers.specs.Writing.{Reached, Stood}
 
 -- what is answered is made of at most m nodes
 abbrev pub FewIn : ℕ → Result Usage → Type 0
@@ -46,11 +41,5 @@ module _ (m : ℕ) (few : m ≤ node_limit) (g : Ground) (start : g.report.at �
   pub reached : (r : Returned Merged SizeRefusal) (x : Result Usage) → FewIn m x → Done x g work r rep → Reached x work r rep
   reached (Ok r) (refused k) small D = D
   reached (Ok r) (done u w p) small D = stood r (small u w p refl) D
-  reached (Err e) (refused k) small D = D
+  reached (Err e) (refused k) small D = D.0
   reached (Err e) (done u w p) small D = D
-
--- a refusal by size is told as such, whatever would be written
-pub refused_as : (output : List ℕ) (n : ℕ) (make : Usage → List ℕ) (work : List ℕ) (rep : Report) (e : SizeRefusal) {e' : Refusal} (x : Result Usage)
-    → number_of e' ≡ size_number e → Reached x work (Err e) rep → {report : List ℕ} → Comes (written output n (under make x)) (Err e') output report
-refused_as output n make work rep e (refused k) same is = comes_kept output n (same ∙ is)
-refused_as output n make work rep e (done u w p) same is = absurd is

@@ -3,8 +3,9 @@
 use Rattle.std.specs.Prelude.{ℕ, Bool, false, [], Result as Returned, Ok, Err}
 use Rattle.definitions.specs.Place.{done}
 use Rattle.definitions.specs.Calls.{Answer as Told, refusal, said}
+use Rattle.place_states.specs.Refusals.{number_of as size_number}
 use Rattle.answers.specs.declared.Refusal.{Refusal}
-use Rattle.answers.specs.declared.Refusal.TheVariants.{ShortWork, BadTable, BadFirst, BadSecond, UnknownType, NotConcrete, ManyNodes, Outgrown, Past32, ShortOutput, ShortReport}
+use Rattle.answers.specs.declared.Refusal.TheVariants.{ShortWork, BadTable, BadFirst, BadSecond, UnknownType, NotConcrete, ManyNodes, Size, ShortOutput, ShortReport}
 use Rattle.answers.specs.declared.Written.{Written}
 use Rattle.answers.specs.declared.Answer.{Answer}
 
@@ -16,8 +17,7 @@ number_of BadSecond = 4
 number_of UnknownType = 5
 number_of NotConcrete = 6
 number_of ManyNodes = 7
-number_of Outgrown = 8
-number_of Past32 = 9
+number_of (Size e) = size_number e
 number_of ShortOutput = 10
 number_of ShortReport = 11
 

@@ -6,6 +6,7 @@ use Rattle.definitions.specs.Stream.{write_node}
 use Rattle.definitions.specs.Place.{Result, refused, done, under}
 use Rattle.definitions.specs.Calls.{Written as Left, written}
 use Rattle.links.specs.Standing.{Stands}
+use Rattle.report.specs.Emitted.{SameBuffer}
 use Rattle.report.specs.declared.Report.{Report}
 use Rattle.place_states.specs.Refusals.{number_of}
 use Rattle.place_states.specs.declared.SizeRefusal.{SizeRefusal}
@@ -44,15 +45,15 @@ Reached (refused k) work (Ok m) report = ⊥
 Reached (done u w p) work (Err e) report = ⊥
 Reached (done u w p) work (Ok m) report = Stood u w p work m report
 
-pub record Reachable (work : List ℕ) (m : Merged) (report : Report) : Type 0 where
+pub record Reachable (work : List ℕ) (m : Returned Merged SizeRefusal) (report : Report) : Type 0 where
   pub result : Result Usage
-  pub reached : Reached result work (Ok m) report
+  pub reached : Reached result work m report
 
--- whatever was reached is given back, the usage behind the byte `top`, in the same buffers
-pub record Finished (top : ℕ) (m : Merged) (work output : List ℕ) (report : Report) (r : Returned Written Refusal) (output' : List ℕ) (report' : Report) : Type 0 where
-  pub of : (x : Result Usage) → Reached x work (Ok m) report
-      → Comes (written output (length report.buffer.now) (under (λ u. top ∷ write_node u) x)) r output' report'.buffer.now
-  pub same_buffer : report'.buffer.ghost_name ≡ report.buffer.ghost_name
+-- whatever was reached is given back, the usage behind the byte `top`, in the same buffers; `gives` says how: as Gives, or as Comes
+pub record Finished (gives : Left → Returned Written Refusal → List ℕ → List ℕ → Type 0) (top : ℕ) (m : Returned Merged SizeRefusal) (work output : List ℕ) (report : Report) (r : Returned Written Refusal) (output' : List ℕ) (report' : Report) : Type 0 where
+  pub of : (x : Result Usage) → Reached x work m report
+      → gives (written output (length report.buffer.now) (under (λ u. top ∷ write_node u) x)) r output' report'.buffer.now
+  pub kept : SameBuffer report report'
 
 -- the report of two tops of which the first stays: none where they are the same, else conflict 37
 abbrev pub unlike_report : Bool → List ℕ

@@ -7,23 +7,22 @@ ghost use Rattle.definitions.specs.Place.{done};
 ghost use Rattle.definitions.specs.Calls.{refusal, written};
 ghost use Rattle.place_states.specs.Refusals.{number_of as size_number};
 ghost use Rattle.answers.specs.Answers.{number_of, answer_of, said_of, told_of};
-ghost use Rattle.answers.specs.Writing.{Comes, Reachable, Finished, unlike_report};
+ghost use Rattle.answers.specs.Writing.{Gives, Comes, Reachable, Finished, unlike_report};
 
 use place_states::{Merged, SizeRefusal};
 use report::Report;
 
-// The refusals, in their order. Outgrown and Past32 are met while placing.
+// The refusals, in their order. Those by size are met while placing.
 #[derive(Clone, Copy, PartialEq, Eq)]
 pub enum Refusal {
-    ShortWork = 1,
+    ShortWork,
     BadTable,
     BadFirst,
     BadSecond,
     UnknownType,
     NotConcrete,
     ManyNodes,
-    Outgrown,
-    Past32,
+    Size(SizeRefusal),
     ShortOutput,
     ShortReport,
 }
@@ -32,7 +31,18 @@ impl Refusal {
     pub fn number(self) -> u32
         ensures { result ≡ number_of self }
     {
-        self as u32
+        match self {
+            Refusal::ShortWork => 1,
+            Refusal::BadTable => 2,
+            Refusal::BadFirst => 3,
+            Refusal::BadSecond => 4,
+            Refusal::UnknownType => 5,
+            Refusal::NotConcrete => 6,
+            Refusal::ManyNodes => 7,
+            Refusal::Size(refusal) => refusal.number(),
+            Refusal::ShortOutput => 10,
+            Refusal::ShortReport => 11,
+        }
     }
 }
 
@@ -40,10 +50,7 @@ impl From<SizeRefusal> for Refusal {
     ghost from_gives = { λ r e. number_of e ≡ size_number r };
 
     fn from(refusal: SizeRefusal) -> Refusal {
-        match refusal {
-            SizeRefusal::Outgrown => Refusal::Outgrown,
-            SizeRefusal::Past32 => Refusal::Past32,
-        }
+        Refusal::Size(refusal)
     }
 }
 
@@ -55,7 +62,7 @@ pub struct Written {
     pub pairings: u32,
 }
 
-// What a call gives back as numbers: the lengths written; the pairings; 0 for answered, or the refusal; a yes or no. The widest stand
+// What a call gives back, for C and the programs: the lengths written; the pairings; 0 for answered, or the refusal; a yes or no. The widest stand
 // first, so that there is no gap between them.
 #[derive(Clone, Copy)]
 pub struct Answer {
@@ -101,6 +108,7 @@ impl From<Result<bool, Refusal>> for Answer {
     }
 }
 
+// The two kinds of answers fill different fields, so each has its own.
 impl From<Result<Written, Refusal>> for Answer {
     ghost from_gives = { λ r a. answer_of a ≡ told_of r };
 
@@ -130,16 +138,17 @@ pub fn cleared(r: Result<Written, Refusal>, rep: &mut [u8]) -> Result<Written, R
 }
 
 // What was placed is written, if it fits: the usage, behind its first byte, and zeros behind the report.
-pub fn finish(
+fn write_merged(
     top: u8,
-    merged: Merged,
+    merged: Result<Merged, SizeRefusal>,
     work: &[u8],
     output: &mut [u8],
     report: &mut Report<'_>,
 ) -> Result<Written, Refusal>
     requires { Reachable work.now merged report.old }
-    ensures { Finished top merged work.now output.old report.old result output.new report.new }
+    ensures { Finished Comes top merged work.now output.old report.old result output.new report.new }
 {
+    let merged = merged?;
     let usage = 1 + transfer_out::written_length(work, merged.node);
     if output.len() < usage {
         return Err(Refusal::ShortOutput);
@@ -158,6 +167,21 @@ pub fn finish(
     })
 }
 
+// What a placing came to is given back: what was placed, or a refusal.
+pub fn finish(
+    top: u8,
+    merged: Result<Merged, SizeRefusal>,
+    work: &[u8],
+    output: &mut [u8],
+    report: &mut Report<'_>,
+) -> Result<Written, Refusal>
+    requires { Reachable work.now merged report.old }
+    ensures { Finished Gives top merged work.now output.old report.old result output.new report.new }
+{
+    let r = write_merged(top, merged, work, output, report);
+    cleared(r, report.buffer)
+}
+
 // What is reported of two tops of which the first stays: conflict 37, or nothing.
 fn unlike_report(unlike: bool) -> &'static [u8]
     ensures { result.now ≡ unlike_report unlike }
@@ -165,8 +189,8 @@ fn unlike_report(unlike: bool) -> &'static [u8]
     if unlike { &[0x37] } else { &[] }
 }
 
-// The first of two tops stays.
-pub fn keep(
+// The first of two tops is written, if it fits, and what is reported of them.
+fn write_first(
     first: &[u8],
     unlike: bool,
     output: &mut [u8],
@@ -189,4 +213,17 @@ pub fn keep(
         report: report.len(),
         pairings: 0,
     })
+}
+
+// The first of two tops stays.
+pub fn keep(
+    first: &[u8],
+    unlike: bool,
+    output: &mut [u8],
+    rep: &mut [u8],
+) -> Result<Written, Refusal>
+    ensures { Gives (written output.old (length rep.old) (done first.now (unlike_report unlike) 0)) result output.new rep.new }
+{
+    let r = write_first(first, unlike, output, rep);
+    cleared(r, rep)
 }

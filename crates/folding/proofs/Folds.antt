@@ -20,9 +20,9 @@ use Rattle.links.specs.Standing.{Stands}
 use Rattle.links.proofs.Frames.{kept_none}
 use Rattle.numbers.proofs.Widths.{argument_width_lem}
 use Rattle.layout.specs.Places.{Known}
-use Rattle.report.specs.Emitted.{Emitted}
+use Rattle.report.specs.Emitted.{Emitted, SameBuffer}
 use Rattle.report.specs.declared.Report.{Report}
-use Rattle.report.proofs.Emitting.{emitted_nothing, emitted_after}
+use Rattle.report.proofs.Emitting.{emitted_nothing, emitted_after, kept_both, kept_emitted}
 use Rattle.place_states.specs.Calls.{ground}
 use Rattle.transfer_in.specs.Loading.{itself}
 use Rattle.answers.specs.Writing.{Reached}
@@ -182,13 +182,13 @@ module _ {st : Setting} {ns : Nodes} {list : List ℕ} {count : ℕ} {rep₀ : R
         ∙ ap (λ us. after folding.w folding.p (fold_from st i folding.u us)) (next_node more).is
         ∙ ap (λ y. after folding.w folding.p (and_then (of_node i) y (λ v. fold_from st (suc i) v (next_node more).others))) e
 
-    pub turn_refused : {e : SizeRefusal} → r ≡ Err e → Reached (fold st ns) work' (Err e) rep'
+    pub turn_refused : {e : SizeRefusal} → r ≡ Err e → Reached (fold st ns) work' (Err e) rep' × SameBuffer rep₀ rep'
     turn_refused {e} is = go (merge_mem st folding.u (next_node more).first) refl (rw is at left)
       where
         go : (x : Result Usage) → merge_mem st folding.u (next_node more).first ≡ x
             → NextDone (of_next i f.result.pairings x) work' rep rep' (Err e)
-            → Reached (fold st ns) work' (Err e) rep'
-        go (refused k) e D = rw (onward e) D
+            → Reached (fold st ns) work' (Err e) rep' × SameBuffer rep₀ rep'
+        go (refused k) e D = rw (onward e) (D.0, kept_both (kept_emitted folding.report) D.1)
         go (done v w q) e D = absurd D
 
     pub turn_on : {to : Folded} → r ≡ Ok to → Folding st ns list count rep₀ work' rep' to (i + 1)

@@ -1,6 +1,7 @@
 -- One node more of a fold: it stands behind what the nodes so far have come to, the two are merged, and a 38 with nothing behind it is
 -- taken back. The positions stay far from where they wrap, since few nodes have a short report.
 -- Assumes nothing.
+use native.Mathlib.Decide.{ℕ_discrete}
 use Rattle.std.proofs.Common.{◌≡◌, ℕ, ◌+◌, ◌%◌, ◌^◌, ◌<◌, ◌≤◌, List, [], ◌∷◌, ◌++◌, length, refl, ◌∙◌, subst, arith}
 use native.Mathlib.Decide.{dec_lt}
 use Rattle.std.specs.Prelude.{Ok, Err}
@@ -13,9 +14,9 @@ use Rattle.definitions.proofs.FewPairings.{merge_mem_few}
 use Rattle.links.specs.Standing.{Stands}
 use Rattle.links.specs.Rows.{nodes_at}
 use Rattle.links.proofs.Stands.{stands_le, stands_still}
-use Rattle.report.specs.Emitted.{Emitted}
+use Rattle.report.specs.Emitted.{Emitted, TakenBack}
 use Rattle.report.specs.declared.Report.{Report}
-use Rattle.report.proofs.Emitting.{emitted_after, emitted_back, emitted_same}
+use Rattle.report.proofs.Emitting.{emitted_after, emitted_back, emitted_same, kept_both, kept_emitted}
 use Rattle.place_states.specs.Calls.{Two, Ready, Near, Ground, ground, Answered, Done, merging, Placed}
 use Rattle.place_states.specs.declared.SizeRefusal.{SizeRefusal}
 use Rattle.place_states.specs.declared.Merged.{Merged}
@@ -30,15 +31,21 @@ use Rattle.inputs.proofs.Lending.{ready_two, near_two}
 
 module _ (i : ℕ) {rep rep₁ rep₂ : Report} (low : rep.at ≤ 2 ^ 61) (head : Emitted rep (0x38 ∷ bytes 2 i) rep₁) where
   -- where the position is what follows the index, nothing was reported
-  pub index_back : rep₂.at ≡ rep₁.at → (w : List ℕ) → length w < 2 ^ 61 → Emitted rep₁ w rep₂ → Emitted rep (of_node i w) (record rep₂ { at = rep.at })
+  index_back : rep₂.at ≡ rep₁.at → (w : List ℕ) → length w < 2 ^ 61 → Emitted rep₁ w rep₂ → Emitted rep (of_node i w) (record rep₂ { at = rep.at })
   index_back e w short E =
       let none : w ≡ [] = emitted_same E e (omega (arith, head.place)) (omega arith) in
       let both : Emitted rep ([] ++ (0x38 ∷ bytes 2 i)) rep₂ = rw none at (emitted_after head E) in
       rw none (emitted_back [] (0x38 ∷ bytes 2 i) both (omega arith) (λ _. omega arith))
 
-  pub index_kept : (rep₂.at ≡ rep₁.at → ⊥) → (w : List ℕ) → length w < 2 ^ 61 → Emitted rep₁ w rep₂ → Emitted rep (of_node i w) rep₂
+  index_kept : (rep₂.at ≡ rep₁.at → ⊥) → (w : List ℕ) → length w < 2 ^ 61 → Emitted rep₁ w rep₂ → Emitted rep (of_node i w) rep₂
   index_kept ne [] short E = absurd (ne (omega (arith, E.place, head.place)))
   index_kept ne (x ∷ xs) short E = emitted_after head E
+
+  pub index_taken : {rep₃ : Report} → TakenBack rep₁.at rep.at rep₂ rep₃ → (w : List ℕ) → length w < 2 ^ 61 → Emitted rep₁ w rep₂ → Emitted rep (of_node i w) rep₃
+  index_taken T w short E = elim (ℕ_discrete rep₂.at rep₁.at) [
+    | yes same ↦ rw (T.empty same) (index_back same w short E)
+    | no other ↦ rw (T.other other) (index_kept other w short E)
+  ]
 
 module _ {table : Table} {list : List ℕ} {f : Folded} {work : List ℕ} {rep : Report} (ready : NextReady table list f work rep) where
   pub next_node_ready : NodeReady list f.end work f.free
@@ -83,16 +90,16 @@ module _ {table : Table} {list : List ℕ} {f : Folded} {work : List ℕ} {rep :
     module _ {work₂ : List ℕ} (i : ℕ) {rep₁ rep₂ : Report} where
       -- what the definition gives is left
 
-      pub next_refused : {e : SizeRefusal} → Placed merging table work₁ f.result.node f.free work₂ (Err e) rep₁ rep₂ → NextFolded table list i f work rep work₂ rep₂ (Err e)
+      pub next_refused : {bs : List ℕ} → Emitted rep bs rep₁ → {e : SizeRefusal} → Placed merging table work₁ f.result.node f.free work₂ (Err e) rep₁ rep₂ → NextFolded table list i f work rep work₂ rep₂ (Err e)
       unfolding merging
-      next_refused {e} placed = record {
-        merged = λ st a b rest B. go _ (merge_mem st a b) (placed.done st B.known a b B.rank 1 f.free (f.free + nodes b) (next_two st a b rest B));
+      next_refused head {e} placed = record {
+        merged = λ st a b rest B. go _ head (merge_mem st a b) (placed.done st B.known a b B.rank 1 f.free (f.free + nodes b) (next_two st a b rest B));
         reads = tt;
       }
         where
-          go : (g : Ground) (x : Result Usage) → Done x g work₂ (Err e) rep₂ → NextDone (of_next i f.result.pairings x) work₂ rep rep₂ (Err e)
-          go g (refused n) D = D
-          go g (done u w q) D = absurd D
+          go : (g : Ground) {bs : List ℕ} → Emitted rep bs g.report → (x : Result Usage) → Done x g work₂ (Err e) rep₂ → NextDone (of_next i f.result.pairings x) work₂ rep rep₂ (Err e)
+          go g head (refused n) D = (D.0, kept_both (kept_emitted head) D.1)
+          go g head (done u w q) D = absurd D
 
       pub next_folded : {r : Merged} → Placed merging table work₁ f.result.node f.free work₂ (Ok r) rep₁ rep₂
           → {p : ℕ} {rep₃ : Report} → p ≡ (f.result.pairings + r.pairings) % 2 ^ 32

@@ -14,7 +14,7 @@ use Rattle.layout.specs.Places.{Known}
 use Rattle.layout.specs.declared.Table.{Table}
 use Rattle.stream.specs.declared.Span.{Span}
 use Rattle.transfer_in.specs.Loading.{KeptBelow, itself}
-use Rattle.report.specs.Emitted.{Emitted}
+use Rattle.report.specs.Emitted.{Emitted, SameBuffer}
 use Rattle.report.specs.declared.Report.{Report}
 use Rattle.place_states.specs.Refusals.{number_of}
 use Rattle.place_states.specs.declared.SizeRefusal.{SizeRefusal}
@@ -77,7 +77,7 @@ pub record NextStood (u : Usage) (w : List ℕ) (p : ℕ) (work : List ℕ) (rep
   pub report : Emitted rep w rep'
 
 abbrev pub NextDone : Result Usage → List ℕ → Report → Report → Returned Folded SizeRefusal → Type 0
-NextDone (refused k) work rep rep' (Err e) = number_of e ≡ k
+NextDone (refused k) work rep rep' (Err e) = (number_of e ≡ k) × SameBuffer rep rep'
 NextDone (refused k) work rep rep' (Ok r) = ⊥
 NextDone (done u w p) work rep rep' (Err e) = ⊥
 NextDone (done u w p) work rep rep' (Ok r) = NextStood u w p work rep rep' r
@@ -107,11 +107,6 @@ pub record FoldReady (table : Table) (list work : List ℕ) : Type 0 where
   pub foldable : Foldable table list setting listed
   pub area : length work ≡ work_limit
 
--- the report is in the buffer that was lent
-pub record SameBuffer (report report' : Report) : Type 0 where
-  pub size : length report'.buffer.now ≡ length report.buffer.now
-  pub name : report'.buffer.ghost_name ≡ report.buffer.ghost_name
-
 pub record AllFolded (table : Table) (list work' : List ℕ) (report report' : Report) (r : Returned Merged SizeRefusal) : Type 0 where
   pub of : (st : Setting) (ns : Nodes) → Foldable table list st ns → Reached (fold st ns) work' r report'
-  pub kept : IfOk r (λ m. SameBuffer report report')
+  pub kept : SameBuffer report report'

@@ -33,7 +33,7 @@ fn of_node(report: &mut Report<'_>, i: u32)
 }
 
 // The node at `at` comes to the records from q on. The list was accepted, so there is one, and it has at most 512 nodes: a window of
-// eight levels does, and takes no time to clear.
+// eight levels does, and takes no time to clear. It is an array, since there is no heap.
 fn load_node(list: &[u8], at: usize, work: &mut [u8], q: usize) -> Span
     requires { NodeReady list.now at work.old q }
     ensures { NodeLoaded list.now at work.old q work.new result }
@@ -63,9 +63,7 @@ fn fold_next(
     of_node(report, i);
     let behind = report.at;
     let r = merge_mem(table, work, f.result.node, q, report)?;
-    if report.at == behind {
-        report.at = before;
-    }
+    report.take_back(behind, before);
     Ok(Folded {
         end: next.end,
         free: q + next.nodes,

@@ -35,7 +35,8 @@ pub fn accept_table(table: &[u8], work: &[u8], places: &mut [u32]) -> Result<usi
     layout::accept(table, places).ok_or(Refusal::BadTable)
 }
 
-// The refusals 1 to 7 in their order, but for 6.
+// The refusals 1 to 7 in their order, but for 6. One more than a type may need 33 bits, so types are compared in 64, by `as`, since no From
+// leads from `usize`.
 pub fn accept(
     table: &[u8],
     work: &[u8],
@@ -70,7 +71,8 @@ pub fn load_both(first: &[u8], second: &[u8], nodes: Nodes, work: &mut [u8])
     transfer_in::load(second, 1, nodes.second, work, 1 + nodes.first);
 }
 
-// Whether an Opaque and another top conflict, as they do unless they are the same Opaque.
+// Whether an Opaque and another top conflict, as they do unless they are the same Opaque. The type is read by its width in the
+// command table, as every operand is.
 pub fn conflicts(first: &[u8], second: &[u8]) -> bool
     requires { OpaqueFirst first.now second.now }
     ensures { Conflicts first.now second.now result }

@@ -7,7 +7,7 @@ use mathlib.Core.Option.{Option as Maybe, none as nothing, some}
 use native.Mathlib.Omega.{arith}
 use borrow.Author.Tests.{le-leb}
 use lib.ListN.{length, take, replicate}
-use Rattle.std.specs.Prelude.{Option, Result as Returned, Ok, Err, OnOk, OnErr}
+use Rattle.std.specs.Prelude.{Option, Result as Returned, Err}
 use Rattle.definitions.specs.Limits.{work_limit}
 use Rattle.definitions.specs.Usage.{memory, Nodes as Listed, all_nodes}
 use Rattle.definitions.specs.Stream.{write_top, list_of}
@@ -22,17 +22,14 @@ use Rattle.layout.specs.Places.{Holds}
 use Rattle.layout.specs.declared.Table.{Table}
 use Rattle.layout.proofs.Uses.{known as known_table}
 use Rattle.report.specs.declared.Report.{Report}
-use Rattle.place_states.specs.Refusals.{number_of as size_number}
 use Rattle.place_states.specs.declared.SizeRefusal.{SizeRefusal}
 use Rattle.place_states.specs.declared.Merged.{Merged}
-use Rattle.answers.specs.Answers.{number_of}
 use Rattle.inputs.specs.Inputs.{Good, Met}
-use Rattle.answers.specs.Writing.{Gives, Comes, Reachable, Finished}
+use Rattle.answers.specs.Writing.{Gives, Reachable, Finished}
 use Rattle.folding.specs.Folding.{Foldable, FoldReady, AllFolded}
 use Rattle.answers.specs.declared.Refusal.{Refusal}
 use Rattle.answers.specs.declared.Written.{Written}
-use Rattle.answers.proofs.Giving.{comes_kept, gives_cleared}
-use Rattle.answers.proofs.Reaching.{refused_as}
+use Rattle.answers.proofs.Giving.{gives_kept}
 use Rattle.inputs.specs.declared.Nodes.{Nodes}
 use Rattle.serving.specs.Loaded.{ListGiven}
 use Rattle.serving.proofs.Lent.{area_lent}
@@ -58,18 +55,11 @@ module _ (table : List ℕ) (work : ℕ) (list : List ℕ) where
   unfolding fold_call
   call_is output n e = ap (written output n) (ap (with_table work table) (fun_ext (by_bound (list_of list))) ∙ e)
 
-  pub fold_cleared : (output : List ℕ) (n : ℕ) (r : Returned Written Refusal) {r' : Returned Written Refusal} {output' report report' : List ℕ}
-      → Comes (fold_call table work list output n) r output' report → length report ≡ n → r' ≡ r
-      → OnOk r (report' ≡ report) → OnErr r (report' ≡ replicate (length report) 0) → Gives (fold_call table work list output n) r' output' report'
-  fold_cleared output n r comes long same kept zeroed =
-      let x = with_table work table (one_body all_nodes all_bound folded (list_of list)) in
-      let is = call_is output n {x = x} refl in
-      rw is (gives_cleared output n x r (rw is at comes) long same kept zeroed)
-
   module _ {places : List ℕ} where
-    pub fold_refused : {e : Refusal} → Met table work (told_list list) none_told places (Err e)
-        → (output : List ℕ) (n : ℕ) {report : List ℕ} → Comes (fold_call table work list output n) (Err e) output report
-    fold_refused met output n = rw (call_is output n (one_refused all_nodes all_bound folded table work (list_of list) met)) (comes_kept output n refl)
+    pub fold_cleared : {e : Refusal} → Met table work (told_list list) none_told places (Err e)
+        → (output : List ℕ) (n : ℕ) {r : Returned Written Refusal} {report : List ℕ} → r ≡ Err e → report ≡ replicate n 0
+        → Gives (fold_call table work list output n) r output report
+    fold_cleared met output n is zeroed = rw (call_is output n (one_refused all_nodes all_bound folded table work (list_of list) met)) (gives_kept output n is zeroed)
 
     module _ {n : Nodes} (good : Good table work (told_list list) none_told places n) (bytes : Bytes list) {lent : Table} (holds : Holds lent table places good.types) where
       abbrev setting : Setting
@@ -95,19 +85,15 @@ module _ (table : List ℕ) (work : ℕ) (list : List ℕ) where
           record { setting = setting; listed = going.first; foldable = foldable; area = area_lent asked area same good.begun.enough }
 
       pub fold_given : (output rep : List ℕ) {r : Returned Written Refusal} {output' rep' : List ℕ} → ListGiven lent list output rep r output' rep'
-          → Comes (fold_call table work list output (length rep)) r output' rep'
+          → Gives (fold_call table work list output (length rep)) r output' rep'
       fold_given output rep given = rw (call_is output (length rep) going.goes) (given.of setting going.first foldable)
 
 -- what was folded is given back
 module _ {table : Table} {list work : List ℕ} (ready : FoldReady table list work) {work' : List ℕ} {rep rep' : Report} where
-  pub fold_reached : {m : Merged} → AllFolded table list work' rep rep' (Ok m) → Reachable work' m rep'
+  pub fold_reached : {m : Returned Merged SizeRefusal} → AllFolded table list work' rep rep' m → Reachable work' m rep'
   fold_reached all = record { result = fold ready.setting ready.listed; reached = all.of ready.setting ready.listed ready.foldable }
 
-  pub list_refused : {e : SizeRefusal} → AllFolded table list work' rep rep' (Err e) → {e' : Refusal} → number_of e' ≡ size_number e
-      → {output report report' : List ℕ} → ListGiven table list output report (Err e') output report'
-  list_refused {e} all same {output = output} {report = report} = record { of = λ st ns foldable. refused_as output (length report) _ work' rep' e (fold st ns) same (all.of st ns foldable) }
-
-  pub list_given : {m : Merged} → AllFolded table list work' rep rep' (Ok m) → {output report : List ℕ} {r : Returned Written Refusal} {output' : List ℕ} {rep₃ : Report} {report' : List ℕ}
-      → length rep'.buffer.now ≡ length report → report' ≡ rep₃.buffer.now → Finished 0x0A m work' output rep' r output' rep₃
+  pub list_given : {m : Returned Merged SizeRefusal} → AllFolded table list work' rep rep' m → {output report : List ℕ} {r : Returned Written Refusal} {output' : List ℕ} {rep₃ : Report} {report' : List ℕ}
+      → length rep'.buffer.now ≡ length report → report' ≡ rep₃.buffer.now → Finished Gives 0x0A m work' output rep' r output' rep₃
       → ListGiven table list output report r output' report'
   list_given all long same finished = record { of = λ st ns foldable. rw (← long, same) (finished.of (fold st ns) (all.of st ns foldable)) }

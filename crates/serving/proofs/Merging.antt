@@ -18,18 +18,18 @@ use Rattle.definitions.proofs.Rounds.{top_written}
 use Rattle.place_states.specs.Calls.{merging}
 use Rattle.stream.specs.Found.{top_bound, told}
 use Rattle.stream.specs.declared.Found.{Found}
-use Rattle.std.specs.Prelude.{Option, Result as Returned, Err, OnOk, OnErr}
+use Rattle.std.specs.Prelude.{Option, Result as Returned, Err}
 use Rattle.layout.specs.Places.{Holds}
 use Rattle.layout.specs.declared.Table.{Table}
 use Rattle.layout.proofs.Uses.{known as known_table}
 use Rattle.inputs.specs.Inputs.{Good, Met}
 use Rattle.inputs.specs.Tops.{OpaqueFirst, Conflicts}
-use Rattle.answers.specs.Writing.{Gives, Comes, unlike_report}
+use Rattle.answers.specs.Writing.{Gives, unlike_report}
 use Rattle.answers.specs.declared.Refusal.{Refusal}
 use Rattle.answers.specs.declared.Written.{Written}
 use Rattle.inputs.specs.declared.Nodes.{Nodes}
 use Rattle.inputs.proofs.Types.{top_types_in_lem}
-use Rattle.answers.proofs.Giving.{comes_kept, gives_cleared}
+use Rattle.answers.proofs.Giving.{gives_kept}
 use Rattle.inputs.proofs.Accepting.{body, refused_by, Going, goes_on}
 use Rattle.serving.specs.Loaded.{Pair, PairGiven}
 use Rattle.serving.proofs.Pairs.{usable}
@@ -78,19 +78,13 @@ module _ (table : List ℕ) (work : ℕ) (first second : List ℕ) where
   unfolding merge_call
   call_is output n = simp top_types_in_lem
 
-  pub merge_cleared : (output : List ℕ) (n : ℕ) (r : Returned Written Refusal) {r' : Returned Written Refusal} {output' report report' : List ℕ}
-      → Comes (merge_call table work first second output n) r output' report → length report ≡ n → r' ≡ r
-      → OnOk r (report' ≡ report) → OnErr r (report' ≡ replicate (length report) 0) → Gives (merge_call table work first second output n) r' output' report'
-  merge_cleared output n r comes long same kept zeroed =
-      let x = with_table work table (body top_nodes top_bound top_nodes top_bound next (top_of first) (top_of second)) in
-      rw (call_is output n) (gives_cleared output n x r (rw (call_is output n) at comes) long same kept zeroed)
-
   module _ {places : List ℕ} where
-    pub merge_refused : {e : Refusal} → Met table work (told_top first) (told_top second) places (Err e)
-        → (output : List ℕ) (n : ℕ) {report : List ℕ} → Comes (merge_call table work first second output n) (Err e) output report
-    merge_refused met output n =
+    pub merge_cleared : {e : Refusal} → Met table work (told_top first) (told_top second) places (Err e)
+        → (output : List ℕ) (n : ℕ) {r : Returned Written Refusal} {report : List ℕ} → r ≡ Err e → report ≡ replicate n 0
+        → Gives (merge_call table work first second output n) r output report
+    merge_cleared met output n is zeroed =
         rw (call_is output n, refused_by top_nodes top_bound top_nodes top_bound next table work (top_of first) (top_of second) met)
-        (comes_kept output n refl)
+        (gives_kept output n is zeroed)
 
     module _ {n : Nodes} (good : Good table work (told_top first) (told_top second) places n) (bytes : Bytes first) (bytes' : Bytes second) where
       abbrev layouts : Layouts
@@ -111,11 +105,11 @@ module _ (table : List ℕ) (work : ℕ) (first second : List ℕ) where
       -- the first stays
 
       keeps : (w : List ℕ) → merge setting goes.first goes.second ≡ done goes.first w 0 → (output : List ℕ) (n : ℕ)
-          → {r : Returned Written Refusal} {output' rep : List ℕ} → Comes (written output n (done first w 0)) r output' rep
-          → Comes (merge_call table work first second output n) r output' rep
-      keeps w e output n comes =
+          → {r : Returned Written Refusal} {output' rep : List ℕ} → Gives (written output n (done first w 0)) r output' rep
+          → Gives (merge_call table work first second output n) r output' rep
+      keeps w e output n gives =
           let all : next setting goes.first goes.second ≡ done first w 0 = ap (under write_top) e ∙ ap (λ (bs : List ℕ). done bs w 0) (sym (top_written first goes.first bytes goes.first_is).0) in
-          rw (call_is output n, goes.goes ∙ all) comes
+          rw (call_is output n, goes.goes ∙ all) gives
 
       module _ (is : get_or first 0 0 ≡ 0x08) where
         pub opaque_first : OpaqueFirst first second
@@ -127,18 +121,18 @@ module _ (table : List ℕ) (work : ℕ) (first second : List ℕ) where
             go (memory u) e = absurd (omega (arith, first_byte first bytes e))
 
         pub merge_opaque : {unlike : Bool} → Conflicts first second unlike → (output : List ℕ) (n : ℕ) {r : Returned Written Refusal} {output' rep : List ℕ}
-            → Comes (written output n (done first (unlike_report unlike) 0)) r output' rep → Comes (merge_call table work first second output n) r output' rep
-        merge_opaque {unlike} conflicts output n comes =
+            → Gives (written output n (done first (unlike_report unlike) 0)) r output' rep → Gives (merge_call table work first second output n) r output' rep
+        merge_opaque {unlike} conflicts output n gives =
             let o = opaque_first in
             let same : goes.first ≡ opaque o.type = cc (goes.first_is, o.first_is) in
-            keeps (unlike_report unlike) (rw same (conflicts.of setting o.type goes.second o.first_is goes.second_is)) output n comes
+            keeps (unlike_report unlike) (rw same (conflicts.of setting o.type goes.second o.first_is goes.second_is)) output n gives
 
       pub merge_unlike : (get_or first 0 0 ≡ get_or second 0 0 → ⊥) → (output : List ℕ) (n : ℕ) {r : Returned Written Refusal} {output' rep : List ℕ}
-          → Comes (written output n (done first (unlike_report true) 0)) r output' rep → Comes (merge_call table work first second output n) r output' rep
-      merge_unlike differ output n comes =
+          → Gives (written output n (done first (unlike_report true) 0)) r output' rep → Gives (merge_call table work first second output n) r output' rep
+      merge_unlike differ output n gives =
           keeps (unlike_report true)
           (of_unlike setting goes.first goes.second (λ same. differ (first_byte first bytes goes.first_is ∙ same ∙ sym (first_byte second bytes' goes.second_is))))
-          output n comes
+          output n gives
 
       -- two tops merge as the usages of the two streams do, behind this first byte
       pub record Merged (x y : Top) (top : ℕ) : Type 0 where
@@ -176,7 +170,7 @@ module _ (table : List ℕ) (work : ℕ) (first second : List ℕ) where
 
       pub merge_gives : {top : ℕ} (k : ReadMerged top) {lent : Table} → Holds lent table places good.types → (output rep : List ℕ)
           → {r : Returned Written Refusal} {output' rep' : List ℕ} → PairGiven top merging lent first second n output rep r output' rep'
-          → Comes (merge_call table work first second output (length rep)) r output' rep'
+          → Gives (merge_call table work first second output (length rep)) r output' rep'
       unfolding merging
       merge_gives k holds output rep given =
           rw (call_is output (length rep), goes.goes ∙ k.is) (given.of setting (known_table good.begun.records holds) k.pair good.few)

@@ -11,7 +11,7 @@ use Rattle.definitions.specs.Limits.{node_limit, work_limit}
 use Rattle.definitions.specs.Usage.{Usage, nodes}
 use Rattle.definitions.specs.Stream.{write_node}
 use Rattle.definitions.specs.Table.{Table as Layouts, Setting}
-use Rattle.definitions.specs.Place.{Result, refused, done}
+use Rattle.definitions.specs.Place.{Result}
 use Rattle.definitions.proofs.FewPairings.{place_few, merge_mem_few}
 use Rattle.definitions.proofs.Writable.{Writable}
 use Rattle.definitions.proofs.Storable.{known_storable}
@@ -20,25 +20,25 @@ use Rattle.links.specs.Rows.{nodes_at}
 use Rattle.layout.specs.Places.{Known}
 use Rattle.stream.specs.Found.{type_bound}
 use Rattle.stream.specs.declared.Found.{Found}
-use Rattle.std.specs.Prelude.{Option, Result as Returned, Ok, Err}
+use Rattle.std.specs.Prelude.{Option, Result as Returned}
 use Rattle.layout.specs.Places.{Holds}
 use Rattle.layout.specs.declared.Table.{Table}
 use Rattle.layout.proofs.Uses.{known as known_table}
+use Rattle.report.specs.Emitted.{SameBuffer}
 use Rattle.report.specs.declared.Report.{Report}
 use Rattle.inputs.specs.declared.Nodes.{Nodes}
 use Rattle.transfer_in.specs.Loading.{itself}
-use Rattle.place_states.specs.Calls.{Two, Ready, Near, Done, Placed, ground, placing, merging}
+use Rattle.place_states.specs.Calls.{Two, Ready, Near, Placed, ground, placing, merging}
 use Rattle.place_states.specs.declared.SizeRefusal.{SizeRefusal}
 use Rattle.place_states.specs.declared.Merged.{Merged}
 use Rattle.inputs.specs.Inputs.{Good, Both, BothLoaded}
-use Rattle.answers.specs.Writing.{Reached, Reachable, Finished}
+use Rattle.answers.specs.Writing.{Gives, Reached, Reachable, Finished}
 use Rattle.answers.specs.declared.Refusal.{Refusal}
 use Rattle.answers.specs.declared.Written.{Written}
 use Rattle.inputs.proofs.Types.{types_in_lem}
 use Rattle.inputs.proofs.Lending.{ready_two, near_two}
-use Rattle.place_states.specs.Refusals.{number_of as size_number}
-use Rattle.answers.specs.Answers.{number_of}
-use Rattle.answers.proofs.Reaching.{FewIn, reached, refused_as}
+use Rattle.place_states.proofs.Answering.{done_kept}
+use Rattle.answers.proofs.Reaching.{FewIn, reached}
 use Rattle.serving.specs.Loaded.{Usable, Pair, PairReady, PairGiven}
 use Rattle.serving.proofs.Lent.{area_lent}
 
@@ -111,25 +111,16 @@ module _ {table : Table} {first second : List ℕ} {n : Nodes} {work : List ℕ}
           (placed.done st known pair.a pair.b itself 1 (1 + n.first) (1 + n.first + n.second) (two st pair))
 
       -- what was reported is in the buffer that was lent
-      pub same_buffer : {m : Merged} → Placed z table work₁ 1 (1 + n.first) work₂ (Ok m) rep rep₂
-          → (length rep₂.buffer.now ≡ length rep.buffer.now) × (rep₂.buffer.ghost_name ≡ rep.buffer.ghost_name)
-      same_buffer {m} placed = go (z ready.setting ready.pair.a ready.pair.b)
+      pub same_buffer : {r : Returned Merged SizeRefusal} → Placed z table work₁ 1 (1 + n.first) work₂ r rep rep₂ → SameBuffer rep rep₂
+      same_buffer {r} placed =
+          done_kept (z ready.setting ready.pair.a ready.pair.b) (ground work₁ itself 1 (1 + n.first + n.second) rep) work₂ r rep₂
           (placed.done ready.setting ready.known ready.pair.a ready.pair.b itself 1 (1 + n.first) (1 + n.first + n.second) (two ready.setting ready.pair))
-        where
-          go : (x : Result Usage) → Done x (ground work₁ itself 1 (1 + n.first + n.second) rep) work₂ (Ok m) rep₂
-              → (length rep₂.buffer.now ≡ length rep.buffer.now) × (rep₂.buffer.ghost_name ≡ rep.buffer.ghost_name)
-          go (refused k) D = absurd D
-          go (done u w q) D = (D.report.size, D.report.same_buffer)
 
-      pub reachable : {m : Merged} → Placed z table work₁ 1 (1 + n.first) work₂ (Ok m) rep rep₂ → Reachable work₂ m rep₂
+      pub reachable : {r : Returned Merged SizeRefusal} → Placed z table work₁ 1 (1 + n.first) work₂ r rep rep₂ → Reachable work₂ r rep₂
       reachable placed = record { result = z ready.setting ready.pair.a ready.pair.b; reached = reaches placed ready.setting ready.known ready.pair }
 
-      pub given_refused : {e : SizeRefusal} → Placed z table work₁ 1 (1 + n.first) work₂ (Err e) rep rep₂
-          → {e' : Refusal} → number_of e' ≡ size_number e → {top : ℕ} {output report report' : List ℕ} → PairGiven top z table first second n output report (Err e') output report'
-      given_refused {e} placed same {output = output} {report = report} = record { of = λ st known pair few. refused_as output (length report) _ work₂ rep₂ e (z st pair.a pair.b) same (reaches placed st known pair) }
-
-      pub given : {m : Merged} → Placed z table work₁ 1 (1 + n.first) work₂ (Ok m) rep rep₂
+      pub given : {m : Returned Merged SizeRefusal} → Placed z table work₁ 1 (1 + n.first) work₂ m rep rep₂
           → {top : ℕ} {output report : List ℕ} {r : Returned Written Refusal} {output' : List ℕ} {rep₃ : Report} {report' : List ℕ}
-          → length rep₂.buffer.now ≡ length report → report' ≡ rep₃.buffer.now → Finished top m work₂ output rep₂ r output' rep₃
+          → length rep₂.buffer.now ≡ length report → report' ≡ rep₃.buffer.now → Finished Gives top m work₂ output rep₂ r output' rep₃
           → PairGiven top z table first second n output report r output' report'
       given placed long same finished = record { of = λ st known pair few. rw (← long, same) (finished.of (z st pair.a pair.b) (reaches placed st known pair)) }

@@ -1,10 +1,10 @@
 -- What `place` gives back, by what was met: a refusal, or what placing the two usages that were read comes to.
 -- Assumes nothing.
 use Prim.Native.Nat.{ℕ}
-use mathlib.Core.Path.{◌≡◌, refl}
+use mathlib.Core.Path.{◌≡◌}
 use mathlib.Core.List.{List}
 use lib.ListN.{length, replicate}
-use Rattle.std.specs.Prelude.{Result as Returned, Err, OnOk, OnErr}
+use Rattle.std.specs.Prelude.{Result as Returned, Err}
 use Rattle.definitions.specs.Usage.{Usage, nodes, memory}
 use Rattle.definitions.specs.Stream.{write_top, memory_of}
 use Rattle.definitions.specs.Table.{Setting}
@@ -15,12 +15,12 @@ use Rattle.definitions.proofs.Rounds.{memory_written}
 use Rattle.place_states.specs.Calls.{placing}
 use Rattle.stream.specs.Found.{type_bound}
 use Rattle.inputs.specs.Inputs.{Good, Met}
-use Rattle.answers.specs.Writing.{Gives, Comes}
+use Rattle.answers.specs.Writing.{Gives}
 use Rattle.answers.specs.declared.Refusal.{Refusal}
 use Rattle.answers.specs.declared.Written.{Written}
 use Rattle.inputs.specs.declared.Nodes.{Nodes}
 use Rattle.inputs.proofs.Types.{types_in_lem}
-use Rattle.answers.proofs.Giving.{comes_kept, gives_cleared}
+use Rattle.answers.proofs.Giving.{gives_kept}
 use Rattle.inputs.proofs.Accepting.{body, refused_by, Going, goes_on}
 use Rattle.serving.specs.Loaded.{Pair, PairGiven}
 use Rattle.layout.specs.Places.{Holds}
@@ -38,19 +38,13 @@ module _ (table : List ℕ) (work : ℕ) (first : List ℕ) (offset : ℕ) (seco
   unfolding place_call
   call_is output n = simp types_in_lem
 
-  pub place_cleared : (output : List ℕ) (n : ℕ) (r : Returned Written Refusal) {r' : Returned Written Refusal} {output' report report' : List ℕ}
-      → Comes (place_call table work first offset second output n) r output' report → length report ≡ n → r' ≡ r
-      → OnOk r (report' ≡ report) → OnErr r (report' ≡ replicate (length report) 0) → Gives (place_call table work first offset second output n) r' output' report'
-  place_cleared output n r comes long same kept zeroed =
-      let x = with_table work table (body nodes type_bound nodes type_bound next (memory_of first) (memory_of second)) in
-      rw (call_is output n) (gives_cleared output n x r (rw (call_is output n) at comes) long same kept zeroed)
-
   module _ {places : List ℕ} where
-    pub place_refused : {e : Refusal} → Met table work (told_memory first) (told_memory second) places (Err e)
-        → (output : List ℕ) (n : ℕ) {report : List ℕ} → Comes (place_call table work first offset second output n) (Err e) output report
-    place_refused met output n =
+    pub place_cleared : {e : Refusal} → Met table work (told_memory first) (told_memory second) places (Err e)
+        → (output : List ℕ) (n : ℕ) {r : Returned Written Refusal} {report : List ℕ} → r ≡ Err e → report ≡ replicate n 0
+        → Gives (place_call table work first offset second output n) r output report
+    place_cleared met output n is zeroed =
         rw (call_is output n, refused_by nodes type_bound nodes type_bound next table work (memory_of first) (memory_of second) met)
-        (comes_kept output n refl)
+        (gives_kept output n is zeroed)
 
     module _ {n : Nodes} (good : Good table work (told_memory first) (told_memory second) places n) (bytes : Bytes first) (bytes' : Bytes second) where
       pub goes : Going nodes type_bound nodes type_bound next table work (memory_of first) (memory_of second) good.begun.records.layouts n.first n.second
@@ -71,7 +65,7 @@ module _ (table : List ℕ) (work : ℕ) (first : List ℕ) (offset : ℕ) (seco
 
       pub place_gives : {lent : Table} → Holds lent table places good.types → (output rep : List ℕ) {r : Returned Written Refusal} {output' rep' : List ℕ}
           → PairGiven 0x0A (placing offset) lent first second n output rep r output' rep'
-          → Comes (place_call table work first offset second output (length rep)) r output' rep'
+          → Gives (place_call table work first offset second output (length rep)) r output' rep'
       unfolding placing
       place_gives holds output rep given =
           rw (call_is output (length rep), goes.goes)

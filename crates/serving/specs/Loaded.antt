@@ -10,7 +10,7 @@ use Rattle.definitions.specs.Sound.{Storable}
 use Rattle.definitions.specs.Calls.{written}
 use Rattle.layout.specs.Places.{Known}
 use Rattle.layout.specs.declared.Table.{Table}
-use Rattle.answers.specs.Writing.{Comes}
+use Rattle.answers.specs.Writing.{Gives}
 use Rattle.answers.specs.declared.Refusal.{Refusal}
 use Rattle.answers.specs.declared.Written.{Written}
 use Rattle.inputs.specs.declared.Nodes.{Nodes}
@@ -40,9 +40,9 @@ pub record PairReady (table : Table) (first second : List ℕ) (n : Nodes) (work
 -- what z makes of the two is given back, behind the byte `top`
 pub record PairGiven (top : ℕ) (z : Setting → Usage → Usage → Result Usage) (table : Table) (first second : List ℕ) (n : Nodes) (output report : List ℕ) (r : Returned Written Refusal) (output' report' : List ℕ) : Type 0 where
   pub of : (st : Setting) → Known table st → (p : Pair st.table first second n) → n.first + n.second ≤ node_limit
-      → Comes (written output (length report) (under (λ u. top ∷ write_node u) (z st p.a p.b))) r output' report'
+      → Gives (written output (length report) (under (λ u. top ∷ write_node u) (z st p.a p.b))) r output' report'
 
 -- the same of folding the nodes of a list
 pub record ListGiven (table : Table) (list output report : List ℕ) (r : Returned Written Refusal) (output' report' : List ℕ) : Type 0 where
   pub of : (st : Setting) (ns : Listed) → Foldable table list st ns
-      → Comes (written output (length report) (under (λ u. 0x0A ∷ write_node u) (fold st ns))) r output' report'
+      → Gives (written output (length report) (under (λ u. 0x0A ∷ write_node u) (fold st ns))) r output' report'

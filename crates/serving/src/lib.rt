@@ -1,5 +1,6 @@
-// The calls over places that are lent for the table's records: refusals in their order, then the answer. What a refused call has
-// reported is cleared at the end.
+// The calls over places that are lent for the table's records: refusals in their order, then the answer. Their parameters are those of the calls
+// for C, one by one, since each goes on to another function; and of a struct with output and report each function that writes would have to
+// promise that it holds the same two buffers still.
 #![tactic(auto)]
 
 ghost use Rattle.std.specs.Prelude.{◌≡◌, length};
@@ -7,7 +8,7 @@ ghost use Rattle.definitions.specs.Limits.{work_limit};
 ghost use Rattle.definitions.specs.Calls.{sound_call, supports_call, place_call, merge_call, fold_call};
 ghost use Rattle.layout.specs.Places.{Room};
 ghost use Rattle.answers.specs.Answers.{said_of, told_of};
-ghost use Rattle.answers.specs.Writing.{Comes, Gives};
+ghost use Rattle.answers.specs.Writing.{Gives};
 ghost use Rattle.place_states.specs.Calls.{placing, merging};
 ghost use Rattle.folding.specs.Folding.{FoldReady};
 ghost use Rattle.serving.specs.Loaded.{PairReady, PairGiven, ListGiven};
@@ -28,7 +29,7 @@ fn area() -> usize
     WORK
 }
 
-// What stands for the second stream of a call that has one.
+// What stands for the second stream of a call that has one: no node and no type is asked of it.
 const NOTHING: Option<Found> = Some(Found { nodes: 0, types: 0 });
 
 // Is the usage of a Memory stream sound? It is loaded into the work area, whose contents do not matter.
@@ -42,7 +43,8 @@ pub fn sound(table: &[u8], work: &mut [u8], places: &mut [u32], s: &[u8]) -> Res
     Ok(soundness::sound(work, 1))
 }
 
-// Does a type, at an offset, support the usage of a Memory stream? It is loaded as for `sound`.
+// Does a type, at an offset, support the usage of a Memory stream? It is loaded as for `sound`. What the stream's types need is compared as in
+// `inputs::accept`, which does not do here, since refusal 6 comes between its 5 and its 7.
 pub fn supports(
     table: &[u8],
     work: &mut [u8],
@@ -89,41 +91,8 @@ fn place_loaded(
 {
     load_both(first, second, nodes, work);
     let mut report = Report { buffer: rep, at: 0 };
-    let merged = merge_mem_at(table, work, 1, offset, 1 + nodes.first, &mut report)?;
+    let merged = merge_mem_at(table, work, 1, offset, 1 + nodes.first, &mut report);
     finish(MEMORY, merged, work, output, &mut report)
-}
-
-// The same of the streams, once they are accepted.
-fn placed(
-    table: &[u8],
-    work: &mut [u8],
-    places: &mut [u32],
-    first: &[u8],
-    offset: u32,
-    second: &[u8],
-    output: &mut [u8],
-    rep: &mut [u8],
-) -> Result<Written, Refusal>
-    requires { Room table.now places.old }
-    ensures { Comes (place_call table.now (length work.old) first.now offset second.now output.old (length rep.old)) result output.new rep.new }
-{
-    let a = stream::memory(first, work);
-    let b = stream::memory(second, work);
-    let nodes = accept(table, work, places, a, b)?;
-    let table = Table {
-        bytes: table,
-        places,
-    };
-    place_loaded(
-        &table,
-        first,
-        offset,
-        second,
-        nodes,
-        &mut work[..area()],
-        output,
-        rep,
-    )
 }
 
 // The second Memory is put into the first at an offset.
@@ -140,11 +109,30 @@ pub fn place(
     requires { Room table.now places.old }
     ensures { Gives (place_call table.now (length work.old) first.now offset second.now output.old (length rep.old)) result output.new rep.new }
 {
-    let r = placed(table, work, places, first, offset, second, output, rep);
-    cleared(r, rep)
+    let a = stream::memory(first, work);
+    let b = stream::memory(second, work);
+    let nodes = match accept(table, work, places, a, b) {
+        Ok(nodes) => nodes,
+        Err(refusal) => return cleared(Err(refusal), rep),
+    };
+    let table = Table {
+        bytes: table,
+        places,
+    };
+    place_loaded(
+        &table,
+        first,
+        offset,
+        second,
+        nodes,
+        &mut work[..area()],
+        output,
+        rep,
+    )
 }
 
-// The usages of two tops that begin with the same byte are loaded and merged.
+// The usages of two tops that begin with the same byte are loaded and merged. From `place_loaded` it differs in the call and in the first byte,
+// and one function for both would have to be told both.
 fn merge_loaded(
     table: &Table<'_>,
     top: u8,
@@ -160,47 +148,8 @@ fn merge_loaded(
 {
     load_both(first, second, nodes, work);
     let mut report = Report { buffer: rep, at: 0 };
-    let merged = merge_mem(table, work, 1, 1 + nodes.first, &mut report)?;
+    let merged = merge_mem(table, work, 1, 1 + nodes.first, &mut report);
     finish(top, merged, work, output, &mut report)
-}
-
-// The same of the streams, once they are accepted. Of other tops the first stays.
-fn merged(
-    table: &[u8],
-    work: &mut [u8],
-    places: &mut [u32],
-    first: &[u8],
-    second: &[u8],
-    output: &mut [u8],
-    rep: &mut [u8],
-) -> Result<Written, Refusal>
-    requires { Room table.now places.old }
-    ensures { Comes (merge_call table.now (length work.old) first.now second.now output.old (length rep.old)) result output.new rep.new }
-{
-    let a = stream::top(first, work);
-    let b = stream::top(second, work);
-    let nodes = accept(table, work, places, a, b)?;
-    let top = first[0];
-    if top == OPAQUE {
-        return keep(first, conflicts(first, second), output, rep);
-    }
-    if top != second[0] {
-        return keep(first, true, output, rep);
-    }
-    let table = Table {
-        bytes: table,
-        places,
-    };
-    merge_loaded(
-        &table,
-        top,
-        first,
-        second,
-        nodes,
-        &mut work[..area()],
-        output,
-        rep,
-    )
 }
 
 // Two Buffers or two Memories are merged; of others the first stays.
@@ -216,8 +165,25 @@ pub fn merge(
     requires { Room table.now places.old }
     ensures { Gives (merge_call table.now (length work.old) first.now second.now output.old (length rep.old)) result output.new rep.new }
 {
-    let r = merged(table, work, places, first, second, output, rep);
-    cleared(r, rep)
+    let a = stream::top(first, work);
+    let b = stream::top(second, work);
+    let nodes = match accept(table, work, places, a, b) {
+        Ok(nodes) => nodes,
+        Err(refusal) => return cleared(Err(refusal), rep),
+    };
+    let top = first[0];
+    if top == OPAQUE {
+        return keep(first, conflicts(first, second), output, rep);
+    }
+    if top != second[0] {
+        return keep(first, true, output, rep);
+    }
+    let table = Table {
+        bytes: table,
+        places,
+    };
+    let work = &mut work[..area()];
+    merge_loaded(&table, top, first, second, nodes, work, output, rep)
 }
 
 // The nodes of an accepted list are merged one after the other.
@@ -232,29 +198,8 @@ fn fold_loaded(
     ensures { ListGiven table.now list.now output.old rep.old result output.new rep.new }
 {
     let mut report = Report { buffer: rep, at: 0 };
-    let merged = folding::fold_nodes(table, list, work, &mut report)?;
+    let merged = folding::fold_nodes(table, list, work, &mut report);
     finish(MEMORY, merged, work, output, &mut report)
-}
-
-// The same of the list, once it is accepted.
-fn folded(
-    table: &[u8],
-    work: &mut [u8],
-    places: &mut [u32],
-    list: &[u8],
-    output: &mut [u8],
-    rep: &mut [u8],
-) -> Result<Written, Refusal>
-    requires { Room table.now places.old }
-    ensures { Comes (fold_call table.now (length work.old) list.now output.old (length rep.old)) result output.new rep.new }
-{
-    let found = stream::list(list, work);
-    accept(table, work, places, found, NOTHING)?;
-    let table = Table {
-        bytes: table,
-        places,
-    };
-    fold_loaded(&table, list, &mut work[..area()], output, rep)
 }
 
 // The nodes of a list, merged one after the other.
@@ -270,6 +215,14 @@ pub fn fold(
     ensures gives { Gives (fold_call table.now (length work.old) list.now output.old (length rep.old)) result output.new rep.new }
     ensures promised { Promised table.now list.now (told_of result) output.new }
 {
-    let r = folded(table, work, places, list, output, rep);
-    cleared(r, rep)
+    let found = stream::list(list, work);
+    match accept(table, work, places, found, NOTHING) {
+        Ok(_) => {}
+        Err(refusal) => return cleared(Err(refusal), rep),
+    }
+    let table = Table {
+        bytes: table,
+        places,
+    };
+    fold_loaded(&table, list, &mut work[..area()], output, rep)
 }

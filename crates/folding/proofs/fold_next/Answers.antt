@@ -2,9 +2,8 @@
 -- position says that something was reported behind it.
 use Rattle.std.proofs.Common.{refl, arith}
 use Rattle.std.proofs.lemmas.Result.{err_from_is_err_and}
-use Rattle.folding.proofs.Nexts.{index_back, index_kept, next_node_ready, next_free, next_merges, next_near, next_refused, next_folded}
+use Rattle.folding.proofs.Nexts.{index_taken, next_node_ready, next_free, next_merges, next_near, next_refused, next_folded}
 use Rattle.folding.proofs.fold_next.Goals as goal
-use Rattle.folding.proofs.fold_next.Goals.{then-report-behind, else-report-behind}
 
 pub load_node-next-requires : goal.load_node-next-requires
 load_node-next-requires c = next_node_ready c.requires
@@ -18,21 +17,11 @@ merge_mem-requires c = record {
 pub returns-in_err-r : goal.returns-in_err-r
 returns-in_err-r c =
     let p = err_from_is_err_and c.from_residual.result c.from_residual.ensures.1 in
-    rw (p.1, p.2) (next_refused c.requires c.load_node-next.auto.work c.load_node-next.ensures c.args.i c.in_err-r.ensures)
+    rw (p.1, p.2) (next_refused c.requires c.load_node-next.auto.work c.load_node-next.ensures c.args.i c.of_node.ensures c.in_err-r.ensures)
 
 pub overflow_add-result : goal.overflow_add-result
 overflow_add-result c = omega (arith, next_free c.requires c.load_node-next.auto.work c.load_node-next.ensures)
 
 pub returns : goal.returns
 returns c =
-    let was = c.load_node-next.auto.work in
-    let loaded = c.load_node-next.ensures in
-    let i = c.args.i in
-    elim c.if-report-behind.branch [
-      | then-report-behind w ↦
-          rw w.report-is
-          (next_folded c.requires was loaded i c.in_ok-r.ensures refl (index_back i c.requires.near c.of_node.ensures w.if-report-behind.true))
-      | else-report-behind w ↦
-          rw w.report-is
-          (next_folded c.requires was loaded i c.in_ok-r.ensures refl (index_kept i c.requires.near c.of_node.ensures w.if-report-behind.false))
-    ]
+    next_folded c.requires c.load_node-next.auto.work c.load_node-next.ensures c.args.i c.in_ok-r.ensures refl (index_taken c.args.i c.requires.near c.of_node.ensures c.take_back.ensures)

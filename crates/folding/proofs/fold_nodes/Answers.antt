@@ -4,6 +4,9 @@ use Rattle.std.proofs.Common.{◌≡◌, refl, ap, ◌∙◌, arith}
 use Rattle.std.proofs.lemmas.Result.{err_from_is_err_and}
 use Rattle.definitions.specs.Command.{Command, argument_width}
 use Rattle.numbers.proofs.Widths.{argument_width_lem}
+use Rattle.definitions.specs.Usage.{Nodes}
+use Rattle.definitions.specs.Table.{Setting}
+use Rattle.folding.specs.Folding.{Foldable}
 use Rattle.folding.proofs.Folds.{count_inside, first_ready, first_few, fold_start, turn_ready, turn_refused, turn_on, fold_end}
 use Rattle.folding.proofs.fold_nodes.Goals as goal
 use Rattle.folding.proofs.fold_nodes.Goals.{After-of-width}
@@ -38,8 +41,10 @@ fold_next-requires c =
 pub returns-in_err-f : goal.returns-in_err-f
 returns-in_err-f c =
     let p = err_from_is_err_and c.from_residual.result c.from_residual.ensures.1 in
-    rw (p.1, p.2)
-    (record { of = λ st ns h. turn_refused (c.loop-i.invariant.0 st ns h) h.known c.loop-i-test.true c.in_err-f.ensures refl; kept = tt })
+    let ready = c.requires in
+    let refused = λ (st : Setting) (ns : Nodes) (h : Foldable c.args.table.now c.args.list.now st ns). turn_refused (c.loop-i.invariant.0 st ns h) h.known c.loop-i-test.true c.in_err-f.ensures refl in
+    let kept = (refused ready.setting ready.listed ready.foldable).1 in
+    rw (p.1, p.2) (record { of = λ st ns h. (refused st ns h).0; kept = record { size = kept.size; name = kept.name } })
 
 pub loop-i-preserved : goal.loop-i-preserved
 loop-i-preserved c =

@@ -1,31 +1,24 @@
 -- `place_loaded` meets its contract: the usages that were read are loaded, and what comes of them is given back.
 use mathlib.Core.Path.{refl, sym, ◌∙◌}
 use borrow.Author.Rules.{rules}
-use Rattle.std.proofs.lemmas.Result.{err_from_is_err_and}
 use Rattle.place_states.specs.Calls.{placing}
-use Rattle.serving.proofs.Pairs.{both, near, placing_few, same_buffer, reachable, given_refused, given}
+use Rattle.serving.proofs.Pairs.{both, near, placing_few, same_buffer, reachable, given}
 use Rattle.serving.proofs.place_loaded.Goals as goal
 
 pub load_both-requires : goal.load_both-requires
 load_both-requires c = both c.requires
 
-pub merge_mem_at-requires-clause-near : goal.merge_mem_at-requires-clause-near
-merge_mem_at-requires-clause-near c = near c.requires c.load_both.auto.work c.load_both.ensures
-
-pub returns-in_err-merged : goal.returns-in_err-merged
-returns-in_err-merged c =
-    let p = err_from_is_err_and c.from_residual.result c.from_residual.ensures.1 in
-    rw p.1
-    (given_refused c.requires c.load_both.auto.work c.load_both.ensures (placing c.args.offset) (placing_few c.args.offset) refl c.in_err-merged.ensures p.2)
+pub merge_mem_at-merged-requires-clause-near : goal.merge_mem_at-merged-requires-clause-near
+merge_mem_at-merged-requires-clause-near c = near c.requires c.load_both.auto.work c.load_both.ensures
 
 pub finish-requires : goal.finish-requires
 finish-requires c =
-    reachable c.requires c.load_both.auto.work c.load_both.ensures (placing c.args.offset) (placing_few c.args.offset) refl c.in_ok-merged.ensures
+    reachable c.requires c.load_both.auto.work c.load_both.ensures (placing c.args.offset) (placing_few c.args.offset) refl c.merge_mem_at-merged.ensures
 
 pub returns : goal.returns
 returns c =
     let z = placing c.args.offset in
-    let same = same_buffer c.requires c.load_both.auto.work c.load_both.ensures z (placing_few c.args.offset) refl c.in_ok-merged.ensures in
-    let lent = sym (c.finish.ensures.same_buffer ∙ same.1) in
-    given c.requires c.load_both.auto.work c.load_both.ensures z (placing_few c.args.offset) refl c.in_ok-merged.ensures
-    same.0 (search rules) c.finish.ensures
+    let same = same_buffer c.requires c.load_both.auto.work c.load_both.ensures z (placing_few c.args.offset) refl c.merge_mem_at-merged.ensures in
+    let lent = sym (c.finish.ensures.kept.name ∙ same.name) in
+    given c.requires c.load_both.auto.work c.load_both.ensures z (placing_few c.args.offset) refl c.merge_mem_at-merged.ensures
+    same.size (search rules) c.finish.ensures
