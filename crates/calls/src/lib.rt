@@ -1,4 +1,5 @@
-// The calls: who receives; and those with a table, which lend places for its records.
+// The calls: who receives; and those with a table, which lend places for its records. What they are given are the parameters of the calls for C,
+// in their order.
 #![tactic(auto)]
 
 ghost use Rattle.std.specs.Prelude.{◌≡◌, length};
@@ -59,7 +60,8 @@ fn who_receives(first: &[u8], second: &[u8], window: &mut [u8]) -> Option<Receiv
     Some(Received::Second)
 }
 
-// The same. The window has 16 levels where both streams are short, else 1,024, which take longer to clear.
+// The same. The window has 16 levels where both streams are short, else 1,024, which take longer to clear. Windows and places are arrays on
+// the stack: there is no heap.
 pub fn receiving(first: &[u8], second: &[u8]) -> Option<Received>
     ensures { first_of result ≡ answered (receiver_of first.now second.now) }
 {

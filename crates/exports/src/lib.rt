@@ -1,4 +1,4 @@
-// The calls for C and Rust, with their answers as numbers. `exports_c` gives them to C under the same names.
+// The calls for C and Rust, with their answers as five numbers, the array that C lends. `exports_c` gives them to C under the same names.
 #![tactic(auto)]
 
 ghost use Rattle.std.specs.Prelude.{◌≡◌, length};
@@ -9,6 +9,8 @@ ghost use Rattle.exports.specs.Numbers.{number_of, bit, numbers_of, Leaves, Leav
 
 use answers::Answer;
 use calls::Received;
+
+// `number` and `numbers` are functions, since a `From` between types of other crates cannot stand here.
 
 fn number(r: Option<Received>) -> u32
     ensures { result ≡ number_of (first_of r) }
@@ -27,6 +29,7 @@ pub fn qptr_receiver(first: &[u8], second: &[u8]) -> u32
     number(calls::receiving(first, second))
 }
 
+// Lengths go to 64 bits by `as`: there is no From of `usize`.
 fn numbers(a: Answer) -> [u64; 5]
     ensures { result ≡ numbers_of (answer_of a) }
 {

@@ -1,6 +1,9 @@
 -- The block that a text begins with, and an input that is three of them.
 -- Assumes nothing.
-use Rattle.std.proofs.Common.{◌≡◌, ℕ, ◌<◌, ◌≤◌, List, [], ◌∷◌, length, take, drop, refl, sym, ◌∙◌, arith, le-ltb, lt-ltb}
+use Rattle.std.proofs.Common.{◌≡◌, ℕ, ◌<◌, ◌≤◌, List, [], ◌∷◌, length, drop, refl, sym, ◌∙◌, arith, le-ltb, lt-ltb}
+use Rattle.std.specs.Prelude.{Option as Maybe, None, Some, MatchOption}
+use Rattle.std.specs.Borrow.{Bor}
+use Rattle.std.specs.List.{IsSplitAt}
 use mathlib.Core.Bool.{Bool, true, false}
 use mathlib.Core.Option.{none as nothing, some}
 use lib.Dec.{ltb, eqb}
@@ -10,16 +13,15 @@ use Rattle.definitions.specs.Stream.{broken, read, whole}
 use Rattle.definitions.proofs.Choice.{either}
 use Rattle.numbers.specs.Words.{word}
 use Rattle.numbers.proofs.Numbers.{number_at_lem}
-use Rattle.frame.specs.Frame.{Blocks, input_limit, read_block, read_blocks, blocks_of}
+use Rattle.frame.specs.Frame.{Blocks, input_limit, read_blocks, blocks_of}
+use Rattle.frame.specs.Parts.{FirstOf}
 
-module _ (s rest : List ℕ) (n : ℕ) (e : n ≡ word s 0) (h : 4 ≤ length s) (behind : rest ≡ drop 4 s) where
-  pub block_short : length rest < n → read_block s ≡ broken
-  unfolding when◌then◌else◌
-  block_short short = rw (number_at_lem 4 s 0 4 refl h, ← e, ← behind, lt-ltb (length rest) n short) refl
-
-  pub block_whole : (x y : List ℕ) → n ≤ length rest → x ≡ take n rest → y ≡ drop n rest → read_block s ≡ read x y
-  unfolding when◌then◌else◌
-  block_whole x y long f g = rw (number_at_lem 4 s 0 4 refl h, ← e, ← behind, le-ltb (length rest) n long, f, g) refl
+pub block_split : (s rest : List ℕ) (n : ℕ) (r : Maybe (Bor (List ℕ) × Bor (List ℕ))) → n ≡ word s 0 → 4 ≤ length s → rest ≡ drop 4 s
+    → MatchOption r (length rest < n) (λ p. IsSplitAt rest n p.0.now p.1.now) → FirstOf s r
+unfolding when◌then◌else◌
+block_split s rest n None e h behind short = rw (number_at_lem 4 s 0 4 refl h, ← e, ← behind, lt-ltb (length rest) n short) refl
+block_split s rest n (Some p) e h behind split =
+    rw (number_at_lem 4 s 0 4 refl h, ← e, ← behind, le-ltb (length rest) n split.0, split.1, split.2) refl
 
 -- the three blocks of an input
 

@@ -52,9 +52,9 @@ merge_held table work first second output n =
     checked (top_types_in st.table a && top_types_in st.table b) (top_nodes a + top_nodes b)
     (under write_top (merge st a b)))
 
-pub zeros_length : length zeros ≡ buffer_length
+pub zeros_length : (n : ℕ) → length (zeros n) ≡ n
 unfolding zeros
-zeros_length = length-replicate {A = ℕ} buffer_length 0
+zeros_length n = length-replicate {A = ℕ} n 0
 
 -- The pieces of a line
 
@@ -83,8 +83,8 @@ answer_short w held =
 line_for_short : (b : Option Blocks) → length (line_for b) ≤ line_limit
 line_for_short nothing = omega arith
 line_for_short (some b) =
-    answer_short (merge_call b.table work_limit b.first b.second zeros buffer_length)
-    (rw zeros_length at (merge_held b.table work_limit b.first b.second zeros buffer_length))
+    answer_short (merge_call b.table work_limit b.first b.second (zeros buffer_length) buffer_length)
+    (rw (zeros_length buffer_length) at (merge_held b.table work_limit b.first b.second (zeros buffer_length) buffer_length))
 
 line_short : (input : List ℕ) → length (line_of input) ≤ line_limit
 unfolding line_of

@@ -58,8 +58,8 @@ hex (b ∷ bs) = hex_digits (b ∷ bs)
 abbrev pub buffer_length : ℕ
 buffer_length = 16384
 
-unfoldable pub zeros : List ℕ
-zeros = replicate buffer_length 0
+unfoldable pub zeros : ℕ → List ℕ
+zeros n = replicate n 0
 
 abbrev pub answer_line : Written → List ℕ
 answer_line w =
@@ -69,7 +69,7 @@ answer_line w =
 -- `frame` where the input is not three blocks
 abbrev pub line_for : Option Blocks → List ℕ
 line_for nothing = 0x66 ∷ 0x72 ∷ 0x61 ∷ 0x6D ∷ 0x65 ∷ 0x0A ∷ []
-line_for (some b) = answer_line (merge_call b.table work_limit b.first b.second zeros buffer_length)
+line_for (some b) = answer_line (merge_call b.table work_limit b.first b.second (zeros buffer_length) buffer_length)
 
 unfoldable pub line_of : List ℕ → List ℕ
 line_of input = line_for (blocks_of input)

@@ -9,10 +9,14 @@ ghost use Rattle.frame.specs.Parts.{blocks_in, FirstOf, PartsOf, Framed};
 ghost use Rattle.frame.specs.Answered.{written};
 
 use answers::Answer;
+use inputs::WORK;
 use numbers::get32;
 
 // The longest input.
 const INPUT: usize = 65536;
+
+// The bytes of an output, and of a report.
+const BUFFER: usize = 16384;
 
 const SPACE: u8 = 0x20;
 
@@ -29,16 +33,13 @@ pub struct Parts<'a> {
     pub second: &'a [u8],
 }
 
-// The block that a text begins with, behind its length, and what stands behind it.
+// The block that a text begins with, behind its length, and what stands behind it. `usize` has no From of the 32 bits of a length.
 pub fn block(s: &[u8]) -> Option<(&[u8], &[u8])>
     ensures { FirstOf s.now result }
 {
     let (_, rest) = s.split_at_checked(4)?;
     let n = get32(s, 0) as usize;
-    if rest.len() < n {
-        return None;
-    }
-    Some(rest.split_at(n))
+    rest.split_at_checked(n)
 }
 
 // The three blocks that a text begins with, one behind the other, and what stands behind them.
@@ -69,6 +70,8 @@ pub fn blocks(s: &[u8]) -> Option<Parts<'_>>
     }
     Some(parts)
 }
+
+// Hex is written by digits, since the line's buffer may end before them: the library's call wants one that does not.
 
 fn hex_digit(n: u8) -> u8
     requires { n < 16 }
@@ -161,9 +164,9 @@ impl Writer<'_> {
     fn merged(&mut self, parts: &Parts<'_>)
         ensures { Put self.old (line_for (some (blocks_in parts.now))) self.new }
     {
-        let mut work = work_area();
-        let mut output = zeros();
-        let mut rep = zeros();
+        let mut work = zeros::<WORK>();
+        let mut output = zeros::<BUFFER>();
+        let mut rep = zeros::<BUFFER>();
         let merge = calls::merge(
             parts.table,
             &mut work,
@@ -176,17 +179,13 @@ impl Writer<'_> {
     }
 }
 
-// Of the work area only the length is told.
-fn work_area() -> [u8; 49152]
-    ensures { 49152 ≡ length result }
+// N zeros, in an array, since there is no heap. They have a function of their own, so that no proof counts them out.
+#[tactic(auto, unfolding(crate::specs::Frame::zeros))]
+pub fn zeros<const N: usize>() -> [u8; N]
+    ensures length { length result ≡ N }
+    ensures bytes { result ≡ zeros N }
 {
-    [0u8; 49152]
-}
-
-fn zeros() -> [u8; 16384]
-    ensures { result ≡ zeros }
-{
-    [0u8; 16384]
+    [0u8; N]
 }
 
 // The line for an input: it stands at the start of the buffer, which holds the longest one, and this is its length. The rest of the

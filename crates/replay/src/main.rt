@@ -1,4 +1,5 @@
-// Runs the recorded answers, and says in one line what came of them.
+// Runs the recorded answers, and says in one line what came of them. Its buffers are arrays, as the library takes no heap; a record
+// that is longer counts as broken.
 #![tactic(auto)]
 
 ghost use Rattle.std.specs.Prelude.{◌≤◌, length, IfSome};
@@ -12,11 +13,11 @@ use std::io::{Print, Read};
 // What came of a file whose records are all whole.
 struct Replayed {
     records: u32,
-    compared: u32,
-    different: u32,
+    counts: Counts,
 }
 
 // So many records are whole, and the one behind them is broken.
+#[derive(Drop)]
 struct Broken {
     records: u32,
 }
@@ -28,7 +29,7 @@ fn word(file: &mut File) -> Option<u32> {
     Some(u32::from_le_bytes(four))
 }
 
-// A record comes to the buffer's start; its length, where it has come whole.
+// A record comes to the buffer's start; its length, where it has come whole. `usize` has no From of the 32 bits that a file has.
 fn fetch(file: &mut File, buf: &mut [u8]) -> Option<usize>
     ensures { IfSome result (λ n. n ≤ length buf.new) }
 {
@@ -55,28 +56,23 @@ fn at_end(file: &mut File) -> bool {
 }
 
 fn replay(file: &mut File) -> Result<Replayed, Broken> {
-    let Some(records) = word(file) else {
-        return Err(Broken { records: 0 });
+    let records = word(file).ok_or(Broken { records: 0 })?;
+    let mut counts = Counts {
+        compared: 0,
+        different: 0,
     };
-    let mut compared = 0;
-    let mut different = 0;
     for i in 0..records {
-        let Some(one) = turn(file) else {
-            return Err(Broken { records: i });
-        };
-        compared += one.compared;
-        different += one.different;
+        let one = turn(file).ok_or(Broken { records: i })?;
+        counts.compared += one.compared;
+        counts.different += one.different;
     }
     if !at_end(file) {
         return Err(Broken { records });
     }
-    Ok(Replayed {
-        records,
-        compared,
-        different,
-    })
+    Ok(Replayed { records, counts })
 }
 
+// Each line is printed in one place, so it stands there and in no Display.
 fn main(rt: HostRuntime) -> io::Result<()> {
     let path = "answers.bin";
     let mut file = match File::open(&rt, path) {
@@ -84,13 +80,11 @@ fn main(rt: HostRuntime) -> io::Result<()> {
         Err(error) => return eprintln!(rt; "{path}: {error}"),
     };
     match replay(&mut file) {
-        Ok(
-            Replayed {
-                records,
+        Ok(Replayed { records, counts }) => {
+            let Counts {
                 compared,
                 different,
-            },
-        ) => {
+            } = counts;
             println!(rt; "replay: {records} records, {compared} compared, {different} different")
         }
         Err(Broken { records }) => println!(rt; "replay: {records} records, then a broken one"),

@@ -1,15 +1,13 @@
 -- What a record consists of (differential/README.md, "The recorded answers"), and what keeps every index in range.
 -- Assumes nothing.
-use Rattle.std.specs.Prelude.{ℕ, ◌+◌, ◌-◌, ◌≤◌, ◌<◌, ◌≡◌, Bool, true, false, List, ◌++◌, length, take, drop, replicate, Option as Maybe, None, Some, MatchOption}
+use Rattle.std.specs.Prelude.{ℕ, ◌+◌, ◌-◌, ◌≤◌, ◌<◌, ◌≡◌, List, ◌++◌, length, take, drop, replicate, Option as Maybe, None, Some, MatchOption}
 use Rattle.definitions.specs.Stream.{read}
 use Rattle.numbers.specs.Words.{word}
 use Rattle.frame.specs.Frame.{Blocks, read_blocks}
-use Rattle.frame.specs.Parts.{blocks_in}
 use Rattle.replaying.specs.declared.Call.{Call}
 use Rattle.replaying.specs.declared.Call.TheVariants.{Receiver, Supports, Writing as Writes, Sound}
 use Rattle.replaying.specs.declared.Writing.{Writing}
 use Rattle.replaying.specs.declared.Writing.TheVariants.{Place, Merge, Fold}
-use Rattle.replaying.specs.declared.Record.{Record}
 use Rattle.replaying.specs.declared.Counts.{Counts}
 
 -- the calls by number
@@ -35,32 +33,21 @@ pub record Recorded : Type 0 where
   pub parts : Blocks
   pub tail : List ℕ
 
-abbrev pub lists : Record → Recorded
-lists r = record { head = r.head.now; parts = blocks_in r.parts; tail = r.tail.now }
-
 -- s is this record
 pub record Recording (s : List ℕ) (r : Recorded) : Type 0 where
   pub head : r.head ≡ take 13 s
   pub parts : read_blocks (drop 13 s) ≡ read r.parts r.tail
 
--- it is whole: the buffers hold what was written, and the record ends with it
-pub record Fits (r : Recorded) : Type 0 where
-  pub head : length r.head ≡ 13
-  pub tail : 30 ≤ length r.tail
-  pub work : word r.head 1 ≤ 49160
-  pub output : word r.tail 0 ≤ 16384
-  pub report : word r.tail 5 ≤ 16384
-  pub usage : word r.tail 18 ≤ word r.tail 0
-  pub text : word r.tail 22 ≤ word r.tail 5
-  pub end : 30 + word r.tail 18 + word r.tail 22 ≡ length r.tail
-
-abbrev pub Sized : Recorded → Bool → Type 0
-Sized r true = Fits r
-Sized r false = Unit {0}
-
-abbrev pub Reads : List ℕ → Maybe Record → Type 0
-Reads s (Some r) = Recording s (lists r) × Fits (lists r)
-Reads s None = Unit {0}
+-- what stands in front of the parts and behind them is whole: the buffers hold what was written, and the record ends with it
+pub record Fits (head tail : List ℕ) : Type 0 where
+  pub front : length head ≡ 13
+  pub behind : 30 ≤ length tail
+  pub work : word head 1 ≤ 49160
+  pub output : word tail 0 ≤ 16384
+  pub report : word tail 5 ≤ 16384
+  pub usage : word tail 18 ≤ word tail 0
+  pub text : word tail 22 ≤ word tail 5
+  pub end : 30 + word tail 18 + word tail 22 ≡ length tail
 
 -- one record is counted once
 abbrev pub Single : Maybe Counts → Type 0

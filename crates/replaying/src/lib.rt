@@ -2,21 +2,21 @@
 // that of `differential/README.md`.
 #![tactic(auto)]
 
-ghost use Rattle.std.specs.Prelude.{◌≡◌, ◌≤◌, true, length, replicate};
+ghost use Rattle.std.specs.Prelude.{◌≡◌, ◌+◌, ◌≤◌, true, length, replicate, IfSome};
 ghost use Rattle.numbers.specs.Words.{word};
 ghost use Rattle.answers.specs.Answers.{answer_of};
 ghost use Rattle.answers.specs.Writing.{Gives};
-ghost use Rattle.replaying.specs.Parts.{lists, number_of, writing_number, NamesCall, Fits, Sized, Reads, Single, Begins};
+ghost use Rattle.replaying.specs.Parts.{number_of, writing_number, NamesCall, Recording, Fits, Single, Begins};
 ghost use Rattle.replaying.specs.Agrees.{Says, Holds, called, Writes, Agrees, Agreed};
 
 use answers::{Answer, Refusal, Written};
-use frame::{Parts, three_blocks};
+use frame::{Parts, three_blocks, zeros};
 use numbers::get32;
 
 // The longest work area and the longest buffer of a record.
-const WORK: u32 = 49160;
+const WORK: usize = 49160;
 
-const BUFFER: u32 = 16384;
+const BUFFER: usize = 16384;
 
 // A record begins with the call, a byte, the length of the work area, the type and the offset that are asked. Then come its three
 // parts, each with its length in front.
@@ -76,12 +76,21 @@ impl Call {
     }
 }
 
+// A length in a record: 32 bits, of which `usize` has no From.
+fn length_at(s: &[u8], at: usize) -> usize
+    requires { at + 4 ≤ length s.now }
+    ensures { result ≡ word s.now at }
+{
+    get32(s, at) as usize
+}
+
 // A record: what stands in front of its parts, the parts, and what stands behind them.
 #[derive(Clone, Copy)]
 struct Record<'a> {
     head: &'a [u8],
     parts: Parts<'a>,
     tail: &'a [u8],
+    ghost fits: { Fits head.now tail.now },
 }
 
 // How many records were compared, and how many of them differ.
@@ -91,54 +100,50 @@ pub struct Counts {
     pub different: u32,
 }
 
+// Are the work area and the buffers not too long, do the buffers hold what was written, and is that all that is left?
+fn sized(head: &[u8], tail: &[u8]) -> bool
+    requires { (length head.now ≡ 13) × (30 ≤ length tail.now) }
+    ensures { result ≡ true → Fits head.now tail.now }
+{
+    let output = length_at(tail, 0);
+    let report = length_at(tail, REPORT_AT);
+    let usage = length_at(tail, USAGE_AT);
+    let text = length_at(tail, TEXT_AT);
+    length_at(head, WORK_AT) <= WORK
+        && output <= BUFFER
+        && report <= BUFFER
+        && usage <= output
+        && text <= report
+        && tail.len() - WRITTEN_AT == usage + text
+}
+
 impl Record<'_> {
+    ghost use Rattle.replaying.specs.Lists.{lists};
+
     fn read(s: &[u8]) -> Option<Record<'_>>
-        ensures { Reads s.now result }
+        ensures { IfSome result (λ r. Recording s.now (lists r)) }
     {
         let (head, rest) = s.split_at_checked(PARTS_AT)?;
         let (parts, tail) = three_blocks(rest)?;
-        if tail.len() < WRITTEN_AT {
+        if tail.len() < WRITTEN_AT || !sized(head, tail) {
             return None;
         }
-        let record = Record { head, parts, tail };
-        if !record.sized() {
-            return None;
-        }
-        Some(record)
+        Some(Record { head, parts, tail })
     }
 
-    // Are the work area and the buffers not too long, do the buffers hold what was written, and is that all that is left?
-    fn sized(&self) -> bool
-        requires { (length self.now.head.now ≡ 13) × (30 ≤ length self.now.tail.now) }
-        ensures { Sized (lists self.now) result }
-    {
-        let output = get32(self.tail, 0);
-        let report = get32(self.tail, REPORT_AT);
-        let usage = get32(self.tail, USAGE_AT);
-        let text = get32(self.tail, TEXT_AT);
-        get32(self.head, WORK_AT) <= WORK
-            && output <= BUFFER
-            && report <= BUFFER
-            && usage <= output
-            && text <= report
-            && self.tail.len() - WRITTEN_AT == usage as usize + text as usize
-    }
-
-    // Are the recorded numbers these?
+    // Are the recorded numbers these? A recorded yes may be neither 0 nor 1, so they are no `Answer`.
     fn answered(&self, a: Answer) -> bool
-        requires { Fits (lists self.now) }
         ensures { result ≡ true → Says self.now.tail.now 10 (answer_of a) }
     {
         get32(self.tail, ANSWER_AT) == a.number
-            && get32(self.tail, ANSWER_AT + 4) == a.yes as u32
-            && get32(self.tail, ANSWER_AT + 8) as usize == a.usage
-            && get32(self.tail, ANSWER_AT + 12) as usize == a.report
+            && get32(self.tail, ANSWER_AT + 4) == u32::from(a.yes)
+            && length_at(self.tail, ANSWER_AT + 8) == a.usage
+            && length_at(self.tail, ANSWER_AT + 12) == a.report
             && get32(self.tail, ANSWER_AT + 16) == a.pairings
     }
 
     // For the receiver the number is 0, 1 or 2: an empty part, the first stream or the second.
     fn receiver(&self) -> bool
-        requires { Fits (lists self.now) }
         ensures { result ≡ true → Agrees (lists self.now) 0 }
     {
         let got = calls::receiver(self.parts.first, self.parts.second);
@@ -151,11 +156,10 @@ impl Record<'_> {
     }
 
     fn supports(&self) -> bool
-        requires { Fits (lists self.now) }
         ensures { result ≡ true → Agrees (lists self.now) 1 }
     {
-        let mut work = work_area();
-        let n = get32(self.head, WORK_AT) as usize;
+        let mut work = zeros::<WORK>();
+        let n = length_at(self.head, WORK_AT);
         let ty = get32(self.head, TYPE_AT);
         let offset = get32(self.head, OFFSET_AT);
         let got = calls::supports(
@@ -169,21 +173,19 @@ impl Record<'_> {
     }
 
     fn sound(&self) -> bool
-        requires { Fits (lists self.now) }
         ensures { result ≡ true → Agrees (lists self.now) 5 }
     {
-        let mut work = work_area();
-        let n = get32(self.head, WORK_AT) as usize;
+        let mut work = zeros::<WORK>();
+        let n = length_at(self.head, WORK_AT);
         let got = calls::sound(self.parts.table, &mut work[..n], self.parts.first);
         self.answered(Answer::from(got))
     }
 
     fn write(&self, writing: Writing, output: &mut [u8], rep: &mut [u8]) -> Result<Written, Refusal>
-        requires { Fits (lists self.now) }
         ensures { Gives (called (writing_number writing) (lists self.now) output.old (length rep.old)) result output.new rep.new }
     {
-        let mut work = work_area();
-        let n = get32(self.head, WORK_AT) as usize;
+        let mut work = zeros::<WORK>();
+        let n = length_at(self.head, WORK_AT);
         let work = &mut work[..n];
         let Parts {
             table,
@@ -202,11 +204,10 @@ impl Record<'_> {
 
     // Do the buffers hold what was written, and behind it what stood in the output before, and zeros in the report?
     fn wrote(&self, output: &[u8], rep: &[u8]) -> bool
-        requires fits { Fits (lists self.now) }
-        requires lengths { (word self.now.tail.now 0 ≡ length output.now) × (word self.now.tail.now 5 ≡ length rep.now) }
+        requires { (word self.now.tail.now 0 ≡ length output.now) × (word self.now.tail.now 5 ≡ length rep.now) }
         ensures { result ≡ true → Holds (lists self.now) output.now rep.now }
     {
-        let text_at = WRITTEN_AT + get32(self.tail, USAGE_AT) as usize;
+        let text_at = WRITTEN_AT + length_at(self.tail, USAGE_AT);
         begins(
             output,
             &self.tail[WRITTEN_AT..text_at],
@@ -216,8 +217,7 @@ impl Record<'_> {
 
     // A call with these buffers, which are as long as is recorded; all that it gives back is compared.
     fn written(&self, writing: Writing, output: &mut [u8], rep: &mut [u8]) -> bool
-        requires fits { Fits (lists self.now) }
-        requires lengths { (word self.now.tail.now 0 ≡ length output.old) × (word self.now.tail.now 5 ≡ length rep.old) }
+        requires { (word self.now.tail.now 0 ≡ length output.old) × (word self.now.tail.now 5 ≡ length rep.old) }
         ensures { result ≡ true → Writes (lists self.now) (writing_number writing) }
     {
         output.fill(self.tail[OUTPUT_FILL_AT]);
@@ -228,19 +228,17 @@ impl Record<'_> {
 
     // Place, merge and fold, with buffers of their own.
     fn writing(&self, writing: Writing) -> bool
-        requires { Fits (lists self.now) }
         ensures { result ≡ true → Writes (lists self.now) (writing_number writing) }
     {
-        let mut output = buffer();
-        let mut rep = buffer();
-        let m = get32(self.tail, 0) as usize;
-        let n = get32(self.tail, REPORT_AT) as usize;
+        let mut output = zeros::<BUFFER>();
+        let mut rep = zeros::<BUFFER>();
+        let m = length_at(self.tail, 0);
+        let n = length_at(self.tail, REPORT_AT);
         self.written(writing, &mut output[..m], &mut rep[..n])
     }
 
     // Does the call give what is recorded?
     fn agrees(&self, call: Call) -> bool
-        requires { Fits (lists self.now) }
         ensures { result ≡ true → Agrees (lists self.now) (number_of call) }
     {
         match call {
@@ -252,21 +250,7 @@ impl Record<'_> {
     }
 }
 
-// The longest work area. Its length is all that lending a part of it takes.
-fn work_area() -> [u8; 49160]
-    ensures { 49160 ≡ length result }
-{
-    [0u8; 49160]
-}
-
-// The longest buffer.
-fn buffer() -> [u8; 16384]
-    ensures { 16384 ≡ length result }
-{
-    [0u8; 16384]
-}
-
-// Is every byte this one?
+// Is every byte this one? This and the next say in their contracts what the library's calls find.
 fn only(buf: &[u8], byte: u8) -> bool
     ensures { result ≡ true → buf.now ≡ replicate (length buf.now) byte }
 {
@@ -292,6 +276,6 @@ pub fn run(s: &[u8]) -> Option<Counts>
     let agrees = record.agrees(call);
     Some(Counts {
         compared: 1,
-        different: !agrees as u32,
+        different: u32::from(!agrees),
     })
 }

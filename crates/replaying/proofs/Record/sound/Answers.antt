@@ -8,5 +8,5 @@ use Rattle.replaying.proofs.Record.sound.Goals as goal
 
 pub returns : goal.returns
 returns c =
-    let long : length (take c.get32-n.result c.work_area-work.result) ≡ word c.args.self.now.head.now 1 = simp length-take (omega arith) in
+    let long : length (take c.length_at-n.result c.zeros-work.result) ≡ word c.args.self.now.head.now 1 = simp length-take (omega arith) in
     λ e. sounded _ _ _ _ long c.sound-got.ensures c.from.ensures (c.answered.ensures e)

@@ -8,5 +8,5 @@ use Rattle.replaying.proofs.Record.supports.Goals as goal
 
 pub returns : goal.returns
 returns c =
-    let long : length (take c.get32-n.result c.work_area-work.result) ≡ word c.args.self.now.head.now 1 = simp length-take (omega arith) in
+    let long : length (take c.length_at-n.result c.zeros-work.result) ≡ word c.args.self.now.head.now 1 = simp length-take (omega arith) in
     λ e. supported _ _ _ _ _ _ long c.get32-ty.ensures c.get32-offset.ensures c.supports-got.ensures c.from.ensures (c.answered.ensures e)
