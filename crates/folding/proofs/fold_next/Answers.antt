@@ -2,7 +2,7 @@
 -- position says that something was reported behind it.
 use Rattle.std.proofs.Common.{refl, arith}
 use Rattle.std.proofs.lemmas.Result.{err_from_is_err_and}
-use Rattle.folding.proofs.Nexts.{index_taken, next_node_ready, next_free, next_merges, next_near, next_refused, next_folded}
+use Rattle.folding.proofs.Nexts.{index_taken, next_node_ready, next_merges, next_near, next_refused, next_folded}
 use Rattle.folding.proofs.fold_next.Goals as goal
 
 pub load_node-next-requires : goal.load_node-next-requires
@@ -18,9 +18,6 @@ pub returns-in_err-r : goal.returns-in_err-r
 returns-in_err-r c =
     let p = err_from_is_err_and c.from_residual.result c.from_residual.ensures.1 in
     rw (p.1, p.2) (next_refused c.requires c.load_node-next.auto.work c.load_node-next.ensures c.args.i c.of_node.ensures c.in_err-r.ensures)
-
-pub overflow_add-result : goal.overflow_add-result
-overflow_add-result c = omega (arith, next_free c.requires c.load_node-next.auto.work c.load_node-next.ensures)
 
 pub returns : goal.returns
 returns c =

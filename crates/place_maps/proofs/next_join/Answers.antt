@@ -8,9 +8,6 @@ use Rattle.place_maps.proofs.next_join.Goals.{in_default-via-in-Less+else-b_end-
 pub end_join-requires-clause-within : goal.end_join-requires-clause-within
 end_join-requires-clause-within c = search (within, rules)
 
-pub returns-then-entry-eq0 : goal.returns-then-entry-eq0
-returns-then-entry-eq0 c = c.end_join.ensures
-
 pub offset-o-requires : goal.offset-o-requires
 offset-o-requires c = search (rest_in, rules)
 

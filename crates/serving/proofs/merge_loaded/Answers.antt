@@ -2,11 +2,8 @@
 use mathlib.Core.Path.{refl, sym, ◌∙◌}
 use borrow.Author.Rules.{rules}
 use Rattle.place_states.specs.Calls.{merging}
-use Rattle.serving.proofs.Pairs.{both, near, merging_few, same_buffer, reachable, given}
+use Rattle.serving.proofs.Pairs.{near, merging_few, same_buffer, reachable, given}
 use Rattle.serving.proofs.merge_loaded.Goals as goal
-
-pub load_both-requires : goal.load_both-requires
-load_both-requires c = both c.requires
 
 pub merge_mem-merged-requires-clause-near : goal.merge_mem-merged-requires-clause-near
 merge_mem-merged-requires-clause-near c = near c.requires c.load_both.auto.work c.load_both.ensures

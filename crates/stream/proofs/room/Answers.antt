@@ -1,6 +1,6 @@
 -- `room` meets its contract: there is room, a level is pushed, or the maps are looked at to their ends.
 use mathlib.Core.Path.{refl}
-use Rattle.stream.proofs.Entering.{room_pushed, room_settled, room_lost}
+use Rattle.stream.proofs.Entering.{room_pushed, room_settled}
 use Rattle.stream.proofs.room.Goals as goal
 
 pub returns-then-window-maps-ge-LEVEL : goal.returns-then-window-maps-ge-LEVEL
@@ -10,8 +10,3 @@ pub returns-then-settled : goal.returns-then-settled
 returns-then-settled c =
     let a = c.args in
     room_settled a.s.now a.at a.maps a.window.now (rw c.if-settled.true at c.settled.ensures) refl refl
-
-pub returns : goal.returns
-returns c =
-    let a = c.args in
-    room_lost a.s.now a.at a.maps a.window.now (rw c.if-settled.false at c.settled.ensures)

@@ -5,24 +5,14 @@ use Rattle.std.specs.Prelude.{Some}
 use Rattle.stream.specs.Walk.{Skips}
 use Rattle.stream.specs.Window.{levels, Held, Followed}
 use Rattle.stream.proofs.Keeping.{none_left}
-use Rattle.stream.proofs.Settling.{settle_start, settle_lost, settle_short, settle_falls, settle_next, settle_end}
+use Rattle.stream.proofs.Settling.{settle_lost, settle_short, settle_falls, settle_next, settle_end}
 use Rattle.stream.proofs.settled.Goals as goal
-
-pub loop-around-init : goal.loop-around-init
-loop-around-init c =
-    let a = c.args in
-    (c.requires.0, settle_start a.s.now a.from (levels a.maps a.window.now) c.requires.1)
 
 pub returns-in_default : goal.returns-in_default
 returns-in_default c =
     let a = c.args in
     settle_lost a.s.now a.from (levels a.maps a.window.now) c.loop-around.invariant.1
     (rw c.in_default.is at c.skip.ensures)
-
-pub overflow_sub-s : goal.overflow_sub-s
-overflow_sub-s c =
-    let ends : Skips c.args.s.now c.loop-around.at (Some c.in-Some.next) = rw c.in-Some.is at c.skip.ensures in
-    let here = ends in omega arith
 
 pub returns-then-s-next-lt4 : goal.returns-then-s-next-lt4
 returns-then-s-next-lt4 c =
@@ -31,11 +21,6 @@ returns-then-s-next-lt4 c =
     settle_short a.s.now a.from (levels a.maps a.window.now) c.loop-around.invariant.1
     ends (omega arith) c.if-s-next-lt4.true
 
-pub get32-requires : goal.get32-requires
-get32-requires c =
-    let ends : Skips c.args.s.now c.loop-around.at (Some c.in-Some.next) = rw c.in-Some.is at c.skip.ensures in
-    let here = ends in omega arith
-
 pub returns-in_default-follow : goal.returns-in_default-follow
 returns-in_default-follow c =
     let ends : Skips c.args.s.now c.loop-around.at (Some c.in-Some.next) = rw c.in-Some.is at c.skip.ensures in
@@ -43,18 +28,6 @@ returns-in_default-follow c =
     let here = ends in
     settle_falls a.s.now a.from (levels a.maps a.window.now) c.loop-around.invariant.1
     here (omega arith) c.get32.ensures (rw c.in_default-follow.is at c.follow.ensures)
-
-pub overflow_add-at : goal.overflow_add-at
-overflow_add-at c =
-    let ends : Skips c.args.s.now c.loop-around.at (Some c.in-Some.next) = rw c.in-Some.is at c.skip.ensures in
-    let here = ends in omega arith
-
-pub loop-around-smaller : goal.loop-around-smaller
-loop-around-smaller c =
-    let next : (let w = c.args.window.now in
-    let m = c.in-Some-follow.rest in
-    Held m w × Followed (levels c.loop-around.around w) c.get32.result (levels m w)) = rw c.in-Some-follow.is at c.follow.ensures in
-    omega (arith, next.1.count)
 
 pub loop-around-preserved : goal.loop-around-preserved
 loop-around-preserved c =

@@ -1,21 +1,13 @@
 -- `several` meets its contract: the loop keeps that the nodes that are left, with the sums so far, tell what all of them do.
-use mathlib.Core.Path.{refl, ◌∙◌}
+use mathlib.Core.Path.{◌∙◌}
 use native.Mathlib.Omega.{arith}
-use native.Mathlib.Nat.{sub-zero}
-use Rattle.stream.proofs.Listing.{list_start, list_stop, list_on, list_end, list_left}
+use Rattle.stream.proofs.Listing.{list_stop, list_on, list_end, list_left}
 use Rattle.stream.proofs.several.Goals as goal
-
-pub loop-init : goal.loop-init
-loop-init c = let a = c.args in (refl, rw sub-zero (list_start a.s.now a.from a.count c.requires))
 
 pub returns-in_err-span : goal.returns-in_err-span
 returns-in_err-span c =
     let a = c.args in
     rw c.from_residual.ensures (list_stop a.s.now a.from a.count c.loop.invariant.1 (omega arith) c.in_err-span.ensures)
-
-pub overflow_add-nodes : goal.overflow_add-nodes
-overflow_add-nodes c =
-    let node = c.in_ok-span.ensures in omega (arith, c.loop.invariant.1.taken, node.taken, node.within, c.well_formed)
 
 pub loop-preserved : goal.loop-preserved
 loop-preserved c =
@@ -23,16 +15,10 @@ loop-preserved c =
     let inv = c.loop.invariant in
     (c.node.auto.window ∙ inv.0, list_on a.s.now a.from a.count inv.1 (omega arith) c.in_ok-span.ensures (c.max-types.ensures))
 
-pub shape_of-window-then-at-s : goal.shape_of-window-then-at-s
-shape_of-window-then-at-s c = c.loop.invariant.0
-
 pub returns-then-at-s : goal.returns-then-at-s
 returns-then-at-s c =
     let a = c.args in
     list_end a.s.now a.from a.count c.loop.invariant.1 (omega arith) c.if-at-s.true
-
-pub shape_of-window-else-at-s : goal.shape_of-window-else-at-s
-shape_of-window-else-at-s c = c.loop.invariant.0
 
 pub returns-else-at-s : goal.returns-else-at-s
 returns-else-at-s c =

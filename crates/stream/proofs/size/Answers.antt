@@ -6,9 +6,6 @@ use Rattle.definitions.specs.If.{when◌then◌else◌}
 use Rattle.stream.proofs.Places.{size_at_lem}
 use Rattle.stream.proofs.size.Goals as goal
 
-pub returns-then-width-eq0 : goal.returns-then-width-eq0
-returns-then-width-eq0 c = rw c.if-width-eq0.true
-
 pub returns-in-1 : goal.returns-in-1
 unfolding when◌then◌else◌
 returns-in-1 c =

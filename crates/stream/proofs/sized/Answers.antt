@@ -17,23 +17,11 @@ outline_is c = rw (c.in_ok-node.was) at c.requires
 width_is : (c : After-of) → c.of.result.size ≡ size_width (command_of c.in_ok-node.field-0.node.kind)
 width_is c = ap (λ r. r.size) c.of.ensures ∙ ap size_width c.command.ensures
 
-pub returns-in_err-node : goal.returns-in_err-node
-returns-in_err-node c = rw c.from_residual.ensures (rw (c.in_err-node.was) at c.requires)
-
-pub overflow_add-at : goal.overflow_add-at
-overflow_add-at c = let here = outline_is (goal.at.overflow_add-at c).In_ok-node in omega arith
-
 pub size-requires : goal.size-requires
 size-requires c =
     let here = outline_is (goal.at.size-requires c).In_ok-node in
     let width = width_is (goal.at.size-requires c).After-of in
     (rw width (size_width_lem _), omega (arith, width, here.taken, here.within))
-
-pub returns-in_err-size : goal.returns-in_err-size
-returns-in_err-size c =
-    let here = outline_is (goal.at.returns-in_err-size c).In_ok-node in
-    let width = width_is (goal.at.returns-in_err-size c).After-of in
-    rw c.from_residual-in_err-size.ensures (rw (here.reads, ← width, c.in_err-size.ensures))
 
 pub returns-then-not-known : goal.returns-then-not-known
 unfolding when◌then◌else◌

@@ -1,5 +1,4 @@
 -- `skip` meets its contract: the loop keeps that if the node at `from` reads, so does what is still to be read, and fewer bytes are left at each turn.
-use native.Mathlib.Omega.{arith}
 use borrow.Author.Rules.{rules}
 use Rattle.std.specs.Prelude.{Some, None}
 use Rattle.stream.proofs.Skipping.{Skips_on, skip_start, skip_stop, skip_turn}
@@ -16,28 +15,13 @@ loop-node-init c = search (skip_start, rules)
 pub returns-in_err-node : goal.returns-in_err-node
 returns-in_err-node c = rw c.from_residual.ensures (skip_stop c.args.s.now c.args.from c.loop-node.invariant c.in_err-node.ensures)
 
-pub past-requires : goal.past-requires
-past-requires c = let here = c.in_ok-node.ensures in (omega arith, omega arith)
-
 pub returns-in_err-past : goal.returns-in_err-past
 returns-in_err-past c =
     rw c.from_residual-in_err-past.ensures
     (skip_turn c.args.s.now c.args.from c.loop-node.invariant c.in_ok-node.ensures None c.in_err-past.ensures)
 
-pub loop-node-smaller-in-Element : goal.loop-node-smaller-in-Element
-loop-node-smaller-in-Element c = let here = c.in_ok-node.ensures in omega arith
-
 pub loop-node-preserved-in-Element : goal.loop-node-preserved-in-Element
 loop-node-preserved-in-Element c = rw c.in-Element.is at (turn (goal.at.loop-node-preserved-in-Element c).In_ok-past)
-
-pub overflow_add-at : goal.overflow_add-at
-overflow_add-at c = let next = rw c.in-Entry.is at (turn (goal.at.overflow_add-at c).In_ok-past) in omega (arith, next.within)
-
-pub loop-node-smaller : goal.loop-node-smaller
-loop-node-smaller c =
-    let here = c.in_ok-node.ensures in
-    let next = rw c.in-Entry.is at (turn (goal.at.loop-node-smaller c).In_ok-past) in
-    omega (arith, here.taken, next.within)
 
 pub loop-node-preserved : goal.loop-node-preserved
 loop-node-preserved c = rw c.in-Entry.is at (turn (goal.at.loop-node-preserved c).In_ok-past)

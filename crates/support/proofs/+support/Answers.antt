@@ -9,7 +9,7 @@ use Rattle.support_memory.specs.Nodes.{Child}
 use Rattle.support_memory.proofs.Staying.{unchanged_both, next_stays}
 use Rattle.support_memory.proofs.Linked.{nodes_stay, element_usage, element_smaller, first_linked, next_linked, chain_falls, entry_usage, entry_smaller, entry_child}
 use Rattle.support.proofs.Types.{asks_earlier}
-use Rattle.support.proofs.Components.{asked_first, one_asked, more_asked, next_later}
+use Rattle.support.proofs.Components.{asked_first, one_asked, more_asked}
 use Rattle.support.proofs.Entries.{walk_starts, walk_goes_on, walk_stops, walk_ends, asks_entry}
 use Rattle.support.proofs.Elements.{other_stride, other_length, by_element}
 use Rattle.support.proofs.Itself.{by_entries, not_by_leaf, not_by_others, by_elements}
@@ -31,10 +31,6 @@ pub any_component_supports-returns-then-supports_inside-clause-component_support
 any_component_supports-returns-then-supports_inside-clause-component_supports t c =
     let I = c.loop-component.invariant in
     one_asked I.asked c.find_components_containing.ensures c.in-Some.is (supports_before I.turned.kept.records (whole_says c.supports_inside.ensures.says)) c.if-supports_inside.true
-
-pub any_component_supports-loop-component-smaller : goal.any_component_supports-loop-component-smaller
-any_component_supports-loop-component-smaller t c =
-    omega (arith, next_later c.loop-component.invariant.asked c.find_components_containing.ensures c.in-Some.is c.requires.concrete_askable)
 
 pub any_component_supports-loop-component-preserved : goal.any_component_supports-loop-component-preserved
 any_component_supports-loop-component-preserved t c =

