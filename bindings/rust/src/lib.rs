@@ -34,14 +34,16 @@ mod display;
 mod error;
 mod merger;
 pub mod notation;
+mod refusal;
 mod streams;
 mod table;
 mod usage;
 
 pub use conflict::{Conflict, ConflictKind};
-pub use error::{ByteFault, BytesError, Error, Refusal, ValueError};
+pub use error::{ByteFault, BytesError, Error, ValueError};
 pub use merger::{MergeResult, Receiver, UsageMerger};
 pub use notation::NotationError;
+pub use refusal::Refusal;
 pub use streams::{list_from_bytes, list_to_bytes};
 pub use table::{Components, Field, MemTypeLayout, Table, TypeLayout};
 pub use usage::{QPtrMemUsage, QPtrMemUsageKind, QPtrUsage, Type, shapes};

@@ -2,7 +2,8 @@
 
 use crate::calls::{self, Answer, Buffers, MOST_NODES, Setting, WORK_AREA};
 use crate::conflict::Conflict;
-use crate::error::{Error, Refusal};
+use crate::error::Error;
+use crate::refusal::Refusal;
 use crate::streams::list_to_bytes;
 use crate::table::Table;
 use crate::usage::{QPtrMemUsage, QPtrUsage, Type};

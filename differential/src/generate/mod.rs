@@ -2,6 +2,7 @@
 
 mod damage;
 mod large;
+#[path = "../../../bindings/rust/tests/random/rng.rs"]
 mod rng;
 mod tables;
 mod usages;

@@ -75,7 +75,7 @@ impl Inputs {
 fn verdict(asked: Result<bool, Refusal>) -> Answer {
     match asked {
         Ok(yes) => Answer { yes: u64::from(yes), ..Answer::default() },
-        Err(refusal) => Answer { number: refusal as u64, ..Answer::default() },
+        Err(refusal) => Answer { number: refusal.number(), ..Answer::default() },
     }
 }
 
@@ -225,7 +225,7 @@ impl Desk<'_> {
                 }
             }
             Err((refusal, pairings)) => Answer {
-                number: refusal as u64,
+                number: refusal.number(),
                 pairings: u64::from(pairings),
                 output: output.bytes(),
                 report: cleared(report, Fault::CallReportKept).bytes(),

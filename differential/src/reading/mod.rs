@@ -9,6 +9,8 @@ pub mod faults;
 mod maps;
 mod merging;
 mod placing;
+#[path = "../../../bindings/rust/src/refusal.rs"]
+mod refusal;
 pub mod report;
 pub mod sound;
 pub mod streams;
@@ -19,22 +21,7 @@ use crate::side::{Answer, Call, Side};
 use crate::usage::{Table, Top, Usage};
 use calls::Rules;
 use faults::{Fault, Faults};
-
-/// The refusals, with document 01's numbers.
-#[derive(Clone, Copy, Debug, PartialEq, Eq)]
-pub enum Refusal {
-    ShortWorkArea = 1,
-    BadTable = 2,
-    BadFirst = 3,
-    BadSecond = 4,
-    UnknownType = 5,
-    NotConcrete = 6,
-    TooManyNodes = 7,
-    Outgrown = 8,
-    PastBits = 9,
-    OutputShort = 10,
-    ReportShort = 11,
-}
+pub use refusal::Refusal;
 
 /// What a merge comes to: the usage, the report's bytes and the pairings.
 #[derive(Clone, Debug, PartialEq, Eq)]

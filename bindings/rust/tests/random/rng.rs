@@ -1,6 +1,7 @@
-//! A small generator of numbers: the same seed gives the same run everywhere.
+//! A small generator of numbers: the same seed gives the same run everywhere. The comparison with
+//! the original Rust (`differential`) takes this very file.
 
-/// SplitMix64.
+/// `SplitMix64`.
 pub struct Rng(u64);
 
 impl Rng {
