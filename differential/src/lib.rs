@@ -2,6 +2,7 @@
 
 #[cfg(feature = "library")]
 pub mod bench;
+mod chart;
 pub mod compare;
 pub mod generate;
 #[cfg(feature = "library")]

@@ -5,7 +5,7 @@ use super::port::ours;
 use super::shapes::{
     Question, arrays, empty_records, layers, merged, overlapping, strides, wrappers,
 };
-use std::fmt::Write;
+use crate::chart::{Chart, Point};
 
 /// A shape, its sizes in the picture, and the question of a size.
 struct Shape {
@@ -60,37 +60,21 @@ const SHAPES: [Shape; 7] = [
     },
 ];
 
-const WIDTH: f64 = 760.0;
-const HEIGHT: f64 = 460.0;
-const LEFT: f64 = 70.0;
-const RIGHT: f64 = 200.0;
-const TOP: f64 = 30.0;
-const BOTTOM: f64 = 50.0;
-
 /// The axes go from 10 to these powers of ten.
 const MOST_SIZE: f64 = 5.0;
 const MOST_QUESTIONS: f64 = 12.0;
 
-/// A size and a number of questions, as powers of ten.
-type Point = [f64; 2];
-
 /// The picture.
 pub fn picture() -> String {
-    let mut svg = frame();
-    for (place, shape) in SHAPES.iter().enumerate() {
-        let [ours, reference] = points(shape);
-        curve(&mut svg, &ours, shape.colour, "");
-        curve(&mut svg, &reference, shape.colour, " stroke-dasharray=\"5 4\"");
-        let y = TOP + 20.0 + 20.0 * place as f64;
-        note(&mut svg, y, shape.name, shape.colour);
+    let mut chart = frame();
+    for shape in &SHAPES {
+        let [ours, reference] = points(shape).map(|points| shares(&points));
+        chart.curves(shape.colour, &ours, &reference);
     }
-    note(&mut svg, TOP + 180.0, "whole: this library", "black");
-    note(&mut svg, TOP + 198.0, "dashed: the reference", "black");
-    svg.push_str("</svg>\n");
-    svg
+    chart.finished()
 }
 
-/// Our questions and the reference's, by nodes times types.
+/// Our questions and the reference's, by nodes times types, all as powers of ten.
 fn points(shape: &Shape) -> [Vec<Point>; 2] {
     let mut both = [Vec::new(), Vec::new()];
     for &size in shape.sizes {
@@ -106,11 +90,18 @@ fn points(shape: &Shape) -> [Vec<Point>; 2] {
     both
 }
 
-fn place([size, questions]: Point) -> (f64, f64) {
-    let share = |power: f64, most: f64| (power - 1.0) / (most - 1.0);
-    let x = LEFT + share(size, MOST_SIZE) * (WIDTH - LEFT - RIGHT);
-    let y = HEIGHT - BOTTOM - share(questions, MOST_QUESTIONS) * (HEIGHT - TOP - BOTTOM);
-    (x, y)
+/// The shares of the axes, up to the upper edge.
+fn shares(points: &[Point]) -> Vec<Point> {
+    let shares = |[size, questions]: Point| [across(size), up(questions)];
+    cut(points).into_iter().map(shares).collect()
+}
+
+fn across(size: f64) -> f64 {
+    (size - 1.0) / (MOST_SIZE - 1.0)
+}
+
+fn up(questions: f64) -> f64 {
+    (questions - 1.0) / (MOST_QUESTIONS - 1.0)
 }
 
 /// The points up to the upper edge, and where the edge is crossed.
@@ -124,41 +115,18 @@ fn cut(points: &[Point]) -> Vec<Point> {
     cut
 }
 
-fn curve(svg: &mut String, points: &[Point], colour: &str, style: &str) {
-    let places: Vec<String> =
-        cut(points).into_iter().map(place).map(|(x, y)| format!("{x:.1},{y:.1}")).collect();
-    let _ = writeln!(
-        svg,
-        "<polyline points=\"{}\" fill=\"none\" stroke=\"{colour}\" stroke-width=\"2\"{style}/>",
-        places.join(" ")
-    );
-}
-
-fn note(svg: &mut String, y: f64, words: &str, colour: &str) {
-    let x = WIDTH - RIGHT + 14.0;
-    let _ = writeln!(svg, "<text x=\"{x:.1}\" y=\"{y}\" fill=\"{colour}\">{words}</text>");
-}
-
-fn frame() -> String {
-    let mut svg = format!(
-        "<svg xmlns=\"http://www.w3.org/2000/svg\" viewBox=\"0 0 {WIDTH} {HEIGHT}\" font-family=\"sans-serif\" font-size=\"12\">\n\
-         <title>Questions of the layout test by size</title>\n<rect width=\"{WIDTH}\" height=\"{HEIGHT}\" fill=\"white\"/>\n"
-    );
-    let (bottom, right) = (HEIGHT - BOTTOM, WIDTH - RIGHT);
+fn frame() -> Chart {
+    let mut chart = Chart::new("Questions of the layout test by size", [760.0, 460.0], 200.0);
     for power in 1..=MOST_SIZE as i32 {
-        let (x, _) = place([f64::from(power), 1.0]);
-        line(&mut svg, [x, TOP], [x, bottom]);
-        label(&mut svg, [x, bottom + 16.0], "middle", &words(power));
+        chart.mark_across(across(f64::from(power)), &words(power));
     }
     for power in 1..=MOST_QUESTIONS as i32 {
-        let (_, y) = place([1.0, f64::from(power)]);
-        line(&mut svg, [LEFT, y], [right, y]);
-        label(&mut svg, [LEFT - 6.0, y + 4.0], "end", &words(power));
+        chart.mark_up(up(f64::from(power)), &words(power));
     }
-    let middle = f64::midpoint(LEFT, right);
-    label(&mut svg, [middle, HEIGHT - 12.0], "middle", "nodes × types");
-    label(&mut svg, [LEFT, TOP - 10.0], "middle", "questions");
-    svg
+    chart.name_across("nodes × types");
+    chart.name_up("questions");
+    chart.name_curves(SHAPES.iter().map(|shape| (shape.name, shape.colour)));
+    chart
 }
 
 /// A power of ten, with the small ones written out.
@@ -167,18 +135,6 @@ fn words(power: i32) -> String {
         1..=3 => 10u32.pow(power as u32).to_string(),
         _ => format!("10<tspan dy=\"-4\" font-size=\"9\">{power}</tspan>"),
     }
-}
-
-fn line(svg: &mut String, [x1, y1]: Point, [x2, y2]: Point) {
-    let _ = writeln!(
-        svg,
-        "<line x1=\"{x1:.1}\" y1=\"{y1:.1}\" x2=\"{x2:.1}\" y2=\"{y2:.1}\" stroke=\"#ddd\"/>"
-    );
-}
-
-fn label(svg: &mut String, [x, y]: Point, anchor: &str, words: &str) {
-    let _ =
-        writeln!(svg, "<text x=\"{x:.1}\" y=\"{y:.1}\" text-anchor=\"{anchor}\">{words}</text>");
 }
 
 #[cfg(test)]
