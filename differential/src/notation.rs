@@ -280,7 +280,7 @@ impl Text<'_> {
         let size = self.size()?;
         let kind = match letter {
             'U' => Kind::Unused,
-            'O' => Kind::Map(self.entries()?),
+            'O' => Kind::Map(self.list("[", "]", Text::entry)?),
             'A' => {
                 let stride = self.after_comma()?;
                 self.need(",")?;
@@ -291,15 +291,34 @@ impl Text<'_> {
         Some(Usage { size, kind })
     }
 
-    fn entries(&mut self) -> Option<Vec<Entry>> {
-        self.need("[")?;
-        let mut entries = Vec::new();
-        while !self.eat("]") {
-            let offset = self.number()?;
-            self.need(":")?;
-            entries.push(Entry { offset, node: self.usage()? });
+    /// What stands between brackets.
+    fn list<T>(
+        &mut self,
+        start: &str,
+        end: &str,
+        item: impl Fn(&mut Self) -> Option<T>,
+    ) -> Option<Vec<T>> {
+        self.need(start)?;
+        let mut items = Vec::new();
+        while !self.eat(end) {
+            items.push(item(self)?);
         }
-        Some(entries)
+        Some(items)
+    }
+
+    /// An offset and a colon.
+    fn offset(&mut self) -> Option<u32> {
+        let offset = self.number()?;
+        self.need(":")?;
+        Some(offset)
+    }
+
+    fn entry(&mut self) -> Option<Entry> {
+        Some(Entry { offset: self.offset()?, node: self.usage()? })
+    }
+
+    fn field(&mut self) -> Option<Field> {
+        Some(Field { offset: self.offset()?, ty: self.number()? })
     }
 
     fn top(&mut self) -> Option<Top> {
@@ -335,7 +354,7 @@ impl Text<'_> {
         let components = match word {
             "scalar" => Components::Scalar,
             "elements" => self.elements()?,
-            _ => Components::Fields(self.fields()?),
+            _ => Components::Fields(self.list("{", "}", Text::field)?),
         };
         Some(Record::Concrete(Layout { size, dynamic_stride, components }))
     }
@@ -346,16 +365,5 @@ impl Text<'_> {
         let (ty, length) = (self.after_comma()?, self.after_comma()?);
         self.need(")")?;
         Some(Components::Elements { stride, ty, length })
-    }
-
-    fn fields(&mut self) -> Option<Vec<Field>> {
-        self.need("{")?;
-        let mut fields = Vec::new();
-        while !self.eat("}") {
-            let offset = self.number()?;
-            self.need(":")?;
-            fields.push(Field { offset, ty: self.number()? });
-        }
-        Some(fields)
     }
 }
