@@ -1,5 +1,5 @@
-//! What both ways of asking share: a usage's nodes in a row, the tests that need no further question, and the components that contain a
-//! range.
+//! What both ways of asking share: a usage's nodes in a row, the tests that need no further question, the components that contain a
+//! range, and which questions are asked inside of one.
 
 use crate::usage::{Components, Field, Kind, Layout, Size, Table, Usage};
 use std::ops::Range;
@@ -146,6 +146,61 @@ impl<'a> Matter<'a> {
     /// The places of all that is inside of a node. The first entry of a map stands first.
     pub fn inside_of(&self, q: usize) -> Range<usize> {
         q + 1..q + self.nodes[q].nodes
+    }
+}
+
+/// A way of asking. It says how one question is asked; which ones are asked inside of it, and in which order, is the same for all.
+/// `None` ends the asking.
+pub trait Asking<'a> {
+    fn matter(&self) -> &Matter<'a>;
+
+    /// Asks one question inside of another.
+    fn asked(&mut self, ty: u32, at: u32, q: usize) -> Option<bool>;
+
+    /// What is asked where the first tests leave a question open.
+    fn past_tests(&mut self, ty: u32, at: u32, q: usize) -> Option<bool> {
+        Some(self.any_component(ty, at, q)? || self.itself(ty, at, q)?)
+    }
+
+    fn any_component(&mut self, ty: u32, at: u32, q: usize) -> Option<bool> {
+        let mut from = 0;
+        while let Some(found) = self.matter().containing(ty, from, at, q) {
+            if self.asked(found.ty, found.rest, q)? {
+                return Some(true);
+            }
+            from = found.next;
+        }
+        Some(false)
+    }
+
+    fn itself(&mut self, ty: u32, at: u32, q: usize) -> Option<bool> {
+        match self.matter().nodes[q].kind {
+            NodeKind::Unused | NodeKind::Leaf(_) => Some(false),
+            NodeKind::Map => self.entries(ty, at, q),
+            NodeKind::Array(_) => match self.matter().element_asked(ty, at, q) {
+                Some(element) => self.asked(element, 0, q + 1),
+                None => Some(false),
+            },
+        }
+    }
+
+    fn entries(&mut self, ty: u32, at: u32, q: usize) -> Option<bool> {
+        let Range { start: mut e, end } = self.matter().inside_of(q);
+        while e < end {
+            if !self.entry(ty, at, e)? {
+                return Some(false);
+            }
+            e += self.matter().nodes[e].nodes;
+        }
+        Some(true)
+    }
+
+    fn entry(&mut self, ty: u32, at: u32, e: usize) -> Option<bool> {
+        match at.checked_add(self.matter().nodes[e].offset) {
+            None => Some(false),
+            Some(0) => self.asked(ty, 0, e),
+            Some(sum) => self.any_component(ty, sum, e),
+        }
     }
 }
 

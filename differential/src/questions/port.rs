@@ -1,8 +1,7 @@
-//! The layout test as the port has it (`crates/support`), function by function, with all that it remembers; and how often it asks.
+//! The layout test as the port has it (`crates/support`), with all that it remembers; and how often it asks.
 
-use super::nodes::{First, Matter, Node, NodeKind};
+use super::nodes::{Asking, First, Matter, Node, NodeKind};
 use crate::usage::{Table, Usage};
-use std::ops::Range;
 
 /// An answer, and the questions that it took: the outermost and all inside of it.
 #[derive(Clone, Copy, Debug, PartialEq, Eq)]
@@ -64,9 +63,12 @@ struct Port<'a> {
     most: u64,
 }
 
-impl Port<'_> {
-    /// A question inside of another.
-    fn inside(&mut self, ty: u32, at: u32, q: usize) -> Option<bool> {
+impl<'a> Asking<'a> for Port<'a> {
+    fn matter(&self) -> &Matter<'a> {
+        &self.matter
+    }
+
+    fn asked(&mut self, ty: u32, at: u32, q: usize) -> Option<bool> {
         self.questions += 1;
         if self.questions > self.most {
             return None;
@@ -84,52 +86,9 @@ impl Port<'_> {
             },
         }
     }
+}
 
-    fn past_tests(&mut self, ty: u32, at: u32, q: usize) -> Option<bool> {
-        Some(self.any_component(ty, at, q)? || self.itself(ty, at, q)?)
-    }
-
-    fn any_component(&mut self, ty: u32, at: u32, q: usize) -> Option<bool> {
-        let mut from = 0;
-        while let Some(found) = self.matter.containing(ty, from, at, q) {
-            if self.inside(found.ty, found.rest, q)? {
-                return Some(true);
-            }
-            from = found.next;
-        }
-        Some(false)
-    }
-
-    fn itself(&mut self, ty: u32, at: u32, q: usize) -> Option<bool> {
-        match self.matter.nodes[q].kind {
-            NodeKind::Unused | NodeKind::Leaf(_) => Some(false),
-            NodeKind::Map => self.entries(ty, at, q),
-            NodeKind::Array(_) => match self.matter.element_asked(ty, at, q) {
-                Some(element) => self.inside(element, 0, q + 1),
-                None => Some(false),
-            },
-        }
-    }
-
-    fn entries(&mut self, ty: u32, at: u32, q: usize) -> Option<bool> {
-        let Range { start: mut e, end } = self.matter.inside_of(q);
-        while e < end {
-            if !self.entry(ty, at, e)? {
-                return Some(false);
-            }
-            e += self.matter.nodes[e].nodes;
-        }
-        Some(true)
-    }
-
-    fn entry(&mut self, ty: u32, at: u32, e: usize) -> Option<bool> {
-        match at.checked_add(self.matter.nodes[e].offset) {
-            None => Some(false),
-            Some(0) => self.inside(ty, 0, e),
-            Some(sum) => self.any_component(ty, sum, e),
-        }
-    }
-
+impl Port<'_> {
     fn recall(&self, ty: u32, at: u32, q: usize) -> Option<bool> {
         let listed = || {
             let number = node_and_type(ty, q);
