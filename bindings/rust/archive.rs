@@ -1,7 +1,7 @@
 //! For build scripts: finds a static library of the repository, or has it proved and built, and links it.
 
 use std::path::{Path, PathBuf};
-use std::process::{Command, exit};
+use std::process::{Command, Output, exit};
 use std::{env, fs};
 
 /// Links `lib{name}.a`. The repository's root is told from the crate's folder.
@@ -17,7 +17,7 @@ pub fn link(name: &str, root: &str) {
     println!("cargo::rustc-link-lib=static={name}");
 }
 
-/// The folder that the caller names.
+/// The folder that the caller names. What lies there is taken as it is.
 fn named(folder: PathBuf, file: &str) -> PathBuf {
     let folder = fs::canonicalize(&folder).unwrap_or(folder);
     if !folder.join(file).is_file() {
@@ -26,46 +26,68 @@ fn named(folder: PathBuf, file: &str) -> PathBuf {
     folder
 }
 
-/// The repository's own folder for static libraries. The library is made if it is not there.
+/// The repository's own folder for static libraries. `staticlib.sh` makes the library if it is not
+/// there or older than what it is made from, and so is asked again when any of that changes.
 fn own(name: &str, file: &str, root: &str) -> PathBuf {
     let crate_folder = PathBuf::from(env::var_os("CARGO_MANIFEST_DIR").unwrap_or_default());
     let root = crate_folder.join(root);
     let root = fs::canonicalize(&root).unwrap_or(root);
-    let folder = root.join("target/staticlib");
-    if !folder.join(file).is_file() {
-        make(&root, name);
+    for source in sources(&root) {
+        println!("cargo::rerun-if-changed={}", source.display());
     }
+    make(&root, name);
+    let folder = root.join("target/staticlib");
     if !folder.join(file).is_file() {
         fail(&format!("`bash staticlib.sh {name}` succeeded and left no {file}"))
     }
     folder
 }
 
-/// Has the toolchain prove the library and write it.
+/// What the repository's libraries are made from, and by what. Cargo looks at every file in a folder.
+pub fn sources(root: &Path) -> Vec<PathBuf> {
+    let mut sources = vec![root.join("crates.txt"), root.join("staticlib.sh")];
+    let crates = fs::read_dir(root.join("crates")).into_iter().flatten().flatten();
+    for it in crates {
+        sources.extend(["src", "specs", "proofs"].map(|folder| it.path().join(folder)));
+    }
+    sources.retain(|source| source.exists());
+    sources
+}
+
+/// Has the toolchain prove the library and write it, where that is to be done.
 fn make(root: &Path, name: &str) {
     let output = Command::new("bash").args(["staticlib.sh", name]).current_dir(root).output();
     let hint = "put `rt` on the PATH, or set PAPERSLOE_LIB_DIR to the folder of";
-    let output = match output {
-        Ok(output) => output,
-        Err(error) => fail(&format!(
-            "the static library `{name}` is not built, and bash, which the Rattle toolchain is \
-             started with, cannot be run ({error}): {hint} lib{name}.a"
+    match output {
+        Ok(output) if output.status.success() => {}
+        Ok(output) => fail(&format!(
+            "the static library `{name}` is not built, and `bash staticlib.sh {name}` failed ({}); \
+             {hint} lib{name}.a; the last of what it said:\n{}",
+            output.status,
+            last_lines(&output)
         )),
-    };
-    if !output.status.success() {
-        let said = String::from_utf8_lossy(&output.stderr);
-        let last = said.lines().rev().find(|line| !line.trim().is_empty()).unwrap_or("no message");
-        fail(&format!(
-            "the static library `{name}` is not built, and `bash staticlib.sh {name}` failed ({}): \
-             {last}: {hint} lib{name}.a",
-            output.status
-        ))
+        Err(error) => fail(&format!(
+            "bash, which makes the static library `{name}` with the Rattle toolchain, cannot be \
+             run ({error}): {hint} lib{name}.a"
+        )),
     }
 }
 
-/// One plain line, and the build fails: cargo sees to that, and shows more than the line where the
-/// script itself fails.
-pub fn fail(line: &str) -> ! {
-    println!("cargo::error={line}");
+/// The last 40 lines that a command wrote as errors.
+fn last_lines(output: &Output) -> String {
+    let said = String::from_utf8_lossy(&output.stderr);
+    let lines: Vec<&str> = said.lines().filter(|line| !line.trim().is_empty()).collect();
+    match lines.len() {
+        0 => "nothing".into(),
+        count => lines[count.saturating_sub(40)..].join("\n"),
+    }
+}
+
+/// The build fails, and each line says why: cargo sees to that, and shows more than the lines where
+/// the script itself fails.
+pub fn fail(lines: &str) -> ! {
+    for line in lines.lines() {
+        println!("cargo::error={line}");
+    }
     exit(0)
 }
