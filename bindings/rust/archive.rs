@@ -57,34 +57,32 @@ pub fn sources(root: &Path) -> Vec<PathBuf> {
 /// Has the toolchain prove the library and write it, where that is to be done.
 fn make(root: &Path, name: &str) {
     let output = Command::new("bash").args(["staticlib.sh", name]).current_dir(root).output();
-    let hint = "put `rt` on the PATH, or set PAPERSLOE_LIB_DIR to the folder of";
+    let hint =
+        format!("where it cannot be made, set PAPERSLOE_LIB_DIR to the folder of a lib{name}.a");
     match output {
         Ok(output) if output.status.success() => {}
         Ok(output) => fail(&format!(
-            "the static library `{name}` is not built, and `bash staticlib.sh {name}` failed ({}); \
-             {hint} lib{name}.a; the last of what it said:\n{}",
+            "`bash staticlib.sh {name}`, which makes the static library, failed ({}); {hint}; \
+             the last of what it said:\n{}",
             output.status,
             last_lines(&output)
         )),
         Err(error) => fail(&format!(
-            "bash, which makes the static library `{name}` with the Rattle toolchain, cannot be \
-             run ({error}): {hint} lib{name}.a"
+            "bash, which makes the static library `{name}`, cannot be run ({error}); {hint}"
         )),
     }
 }
 
-/// The last 40 lines that a command wrote as errors.
+/// The last lines that a command wrote as errors: where a crate fails, `staticlib.sh` ends with a line
+/// that names it and 40 of what `rt` said.
 fn last_lines(output: &Output) -> String {
     let said = String::from_utf8_lossy(&output.stderr);
-    let lines: Vec<&str> = said.lines().filter(|line| !line.trim().is_empty()).collect();
-    match lines.len() {
-        0 => "nothing".into(),
-        count => lines[count.saturating_sub(40)..].join("\n"),
-    }
+    let lines: Vec<&str> = said.lines().collect();
+    lines[lines.len().saturating_sub(41)..].join("\n")
 }
 
-/// The build fails, and each line says why: cargo sees to that, and shows more than the lines where
-/// the script itself fails.
+/// The build fails, and these lines say why: cargo sees to that, and shows more than them where the
+/// script itself fails.
 pub fn fail(lines: &str) -> ! {
     for line in lines.lines() {
         println!("cargo::error={line}");
