@@ -9,7 +9,8 @@ use Rattle.definitions.specs.Table.{Setting}
 use Rattle.definitions.specs.Place.{Result, done, place}
 use Rattle.definitions.specs.Sound.{Storable}
 use Rattle.definitions.specs.Inner.Pairs.{pairs}
-use Rattle.definitions.proofs.Bound.{Bounded, Within, place_within, merge_mem_within}
+use Rattle.definitions.proofs.Results.{answered}
+use Rattle.definitions.proofs.Bound.{place_within, merge_mem_within}
 use Rattle.definitions.proofs.Stored.{place_storable, merge_mem_storable}
 use Rattle.links.proofs.Stands.{stands_le}
 use Rattle.links.proofs.Frames.{kept_trans, kept_widen}
@@ -35,17 +36,9 @@ record Gives (k : ℕ) (t u r : Usage) (w : List ℕ) (p : ℕ) : Type 0 where
   paid : p + pairs r ≤ pairs t + pairs u + nodes t * nodes u
   short : length w ≤ 14 * p - 5
 
-within_bounded : {n i : ℕ} {bytes : ℕ → ℕ} {x : Result Usage} {r : Usage} {w : List ℕ} {p : ℕ} {s : _} → Within s n i bytes x → x ≡ done r w p → Bounded n i bytes r w p
-within_bounded {r} {w} {p} Within.barred q = let z : ◌≡◌ {A = ℕ} 0 1 = cc in absurd (omega arith)
-within_bounded {r} {w} {p} (Within.answer u w' p' e b) q =
-    let eu : u ≡ r = cc in
-    let ew : w' ≡ w = cc in
-    let ep : p' ≡ p = cc in
-    rw (← eu, ← ew, ← ep) b
-
 place_gives : (st : Setting) (k d : ℕ) (t u : Usage) {r : Usage} {w : List ℕ} {p : ℕ} → d ≤ max32 → Storable k t → Storable k u → place st t d u ≡ done r w p → Gives k t u r w p
 place_gives st k d t u le ht hu q =
-    let b = within_bounded (place_within st t d u) q in
+    let b = (answered (place_within st t d u) q).1 in
     record { fits = place_storable st k t d u ht hu le q; few_nodes = b.few_nodes; paid = b.paid; short = b.short_report }
 
 act_gives : (st : Setting) (k : ℕ) (how : Pairing) (d : ℕ) (t u : Usage) {r : Usage} {w : List ℕ} {p : ℕ} → d ≤ max32 → Storable k t → Storable k u
@@ -53,7 +46,7 @@ act_gives : (st : Setting) (k : ℕ) (how : Pairing) (d : ℕ) (t u : Usage) {r 
 unfolding act
 act_gives st k Place d t u le ht hu q = place_gives st k d t u le ht hu q
 act_gives st k Merge d t u le ht hu q =
-    let b = within_bounded (merge_mem_within st t u) q in
+    let b = (answered (merge_mem_within st t u) q).1 in
     record { fits = merge_mem_storable st k t u ht hu q; few_nodes = b.few_nodes; paid = b.paid; short = b.short_report }
 
 spare_more : (y : Beyond) (m n : ℕ) → m ≤ n → spare y m ≤ spare y n

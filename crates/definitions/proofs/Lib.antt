@@ -15,6 +15,7 @@ pub mod Earlier
 pub mod Support
 pub mod PlaceFuel
 -- bounds of every placing and fold: nodes, pairings, report, size
+pub mod Results
 pub mod Sizes
 pub mod Parts
 pub mod Reports
