@@ -21,7 +21,8 @@ module _ {A : Type 0} {R : Type 0} {P : A → List ℕ → ℕ → Type 0} where
       let ep : p' ≡ p = cc in
       rw (← ea, ← ew, ← ep) h
 
-  pub answers_map : {Q : A → List ℕ → ℕ → Type 0} {x : Result A} → Answers R P x → ((a : A) (w : List ℕ) (p : ℕ) → P a w p → Q a w p) → Answers R Q x
+  pub answers_map : {Q : A → List ℕ → ℕ → Type 0} {x : Result A} → Answers R P x
+      → ((a : A) (w : List ℕ) (p : ℕ) → P a w p → Q a w p) → Answers R Q x
   answers_map (barred r) f = barred r
   answers_map (answer a w p h) f = answer a w p (f a w p h)
 
@@ -41,13 +42,14 @@ module _ {A : Type 0} {R : Type 0} {P : A → List ℕ → ℕ → Type 0} where
   under_answers f (barred r) = barred r
   under_answers f (answer b w p h) = answer (f b) w p h
 
-  pub then_answers : {B : Type 0} {Q : B → List ℕ → ℕ → Type 0} {x : Result B} (mark : List ℕ → List ℕ) (next : B → Result A) → Answers R Q x
-      → ((b : B) (w : List ℕ) (p : ℕ) → Q b w p → Answers R (λ a w' p'. P a (mark w ++ w') (p + p')) (next b)) → Answers R P (Place.and_then mark x next)
-  then_answers mark next (barred r) on = barred r
-  then_answers mark next (answer b w p h) on = after_answers (mark w) p (on b w p h)
+  pub then_answers : {B : Type 0} {Q : B → List ℕ → ℕ → Type 0} {x : Result B} {next : B → Result A} (mark : List ℕ → List ℕ)
+      → Answers R Q x → ((b : B) (w : List ℕ) (p : ℕ) → Q b w p → Answers R (λ a w' p'. P a (mark w ++ w') (p + p')) (next b))
+      → Answers R P (Place.and_then mark x next)
+  then_answers mark (barred r) on = barred r
+  then_answers mark (answer b w p h) on = after_answers (mark w) p (on b w p h)
 
   -- two ways to go on that agree where P holds
-  pub then_agree : {B : Type 0} {x : Result A} (mark : List ℕ → List ℕ) {f g : A → Result B} → Answers R P x
+  pub then_agree : {B : Type 0} {x : Result A} {f g : A → Result B} (mark : List ℕ → List ℕ) → Answers R P x
       → ((a : A) (w : List ℕ) (p : ℕ) → P a w p → f a ≡ g a) → Place.and_then mark x f ≡ Place.and_then mark x g
   then_agree mark (barred r) on = refl
   then_agree mark (answer a w p h) on = ap (Place.after (mark w) p) (on a w p h)
