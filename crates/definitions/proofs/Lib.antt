@@ -2,6 +2,7 @@
 pub mod Choice
 pub mod Nodes
 pub mod After
+pub mod Results
 -- streams: reading and writing are each other's inverse
 pub mod Reading
 pub mod Written
@@ -15,7 +16,6 @@ pub mod Earlier
 pub mod Support
 pub mod PlaceFuel
 -- bounds of every placing and fold: nodes, pairings, report, size
-pub mod Results
 pub mod Sizes
 pub mod Parts
 pub mod Reports
