@@ -2,21 +2,16 @@
 # Compiles and links the example, runs it, and holds what it prints to example.expected.
 #
 # The library is taken from the folder PAPERSLOE_LIB_DIR, if that is set, and else from the repository's
-# target/staticlib; if it is not there, the toolchain proves and builds it. CC names the compiler.
+# target/staticlib, where the toolchain proves and builds it if it is not there or older than its sources. CC names the compiler.
 set -euo pipefail
 cd "$(dirname "$0")"
 
 folder=${PAPERSLOE_LIB_DIR:-../../target/staticlib}
-if [ ! -f "$folder/libexports.a" ]; then
-  if [ -n "${PAPERSLOE_LIB_DIR:-}" ]; then
-    echo "example.sh: PAPERSLOE_LIB_DIR is $folder, which has no libexports.a" >&2
-    exit 2
-  fi
-  if ! command -v rt >/dev/null; then
-    echo "example.sh: the library is not built, and the Rattle toolchain's command rt is not on the PATH" >&2
-    exit 2
-  fi
+if [ -z "${PAPERSLOE_LIB_DIR:-}" ]; then
   bash ../../staticlib.sh exports
+elif [ ! -f "$folder/libexports.a" ]; then
+  echo "example.sh: PAPERSLOE_LIB_DIR is $folder, which has no libexports.a" >&2
+  exit 2
 fi
 
 built=$(mktemp -d)
