@@ -17,6 +17,7 @@ use Rattle.qptr.specs.declared.Strictness.{Strictness}
 use Rattle.qptr.specs.contracts.MaxSizePartialOrd.TheImpl.{partial_cmp-value as size_cmp}
 use Rattle.qptr.specs.contracts.StrictnessPartialOrd.TheImpl.{partial_cmp-value as strictness_cmp}
 use Rattle.qptr.proofs.Orders.{less_size, less_strict}
+use Rattle.qptr.proofs.Usages.{head_size}
 use Rattle.qptr.specs.declared.Kind.{Kind}
 use Rattle.qptr.specs.declared.Kind.TheVariants.{Unused, StrictlyTyped, DirectAccess, OffsetBase, DynOffsetBase}
 use Rattle.qptr.specs.Values.{size_of, strictness_of, command_of, kind_of, part_by, Stands, Receives}
@@ -27,12 +28,6 @@ node_receives a b =
     when size_of b.size <ˢ size_of a.size then true
     else when size_of a.size <ˢ size_of b.size then false
     else ltb (command_at (command_of b.kind)).strictness (command_at (command_of a.kind)).strictness
-
-head_size : (u : Usage) → (head_of u).size ≡ size u
-head_size (unused s) = refl
-head_size (leaf s k t) = refl
-head_size (map s es) = refl
-head_size (array s n e) = refl
 
 module _ (n : Node) (u : Usage) (stands : Stands n u) where
   same_size : size_of n.size ≡ size u
@@ -81,13 +76,6 @@ pub unused_stands : Stands Constants.UNUSED UNUSED
 unused_stands = refl
 
 -- kinds and commands, both ways
-
-pub kind_command : (k : Kind) → kind_of (command_of k) ≡ k
-kind_command Unused = refl
-kind_command StrictlyTyped = refl
-kind_command DirectAccess = refl
-kind_command OffsetBase = refl
-kind_command DynOffsetBase = refl
 
 pub command_kind : (c : ℕ) → c ≤ 0x04 → command_of (kind_of c) ≡ c
 command_kind zero h = refl
