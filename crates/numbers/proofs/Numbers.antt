@@ -2,16 +2,17 @@
 -- the width.
 -- Assumes nothing.
 use Prim.Native.Nat.{ℕ, zero, suc, ◌+◌, ◌^◌, ◌/◌, ◌%◌, ◌<◌, ◌≤◌}
-use mathlib.Core.Path.{◌≡◌, refl, ap, sym, ◌∙◌}
+use mathlib.Core.Path.{◌≡◌, refl, ◌∙◌}
 use mathlib.Core.List.{List, [], ◌∷◌, ◌++◌}
 use native.Mathlib.Decide.{dec_lt}
 use native.Mathlib.Nat.{add-zero}
 use native.Mathlib.Omega.{arith}
 use lib.ListN.{length, get_or, set, drop, length-drop, length-set}
-use lib.Seq.{sets, get_or-set_same, get_or-set_other, get_or-drop, drop-cons, drop-drop, length-sets}
+use lib.Seq.{sets, get_or-set_same, get_or-set_other, drop-cons, length-sets}
 use Rattle.definitions.specs.Stream.{Read, broken, read, ◌then◌, number, bytes}
 use Rattle.definitions.proofs.Numbers.{bytes_length}
 use Rattle.numbers.specs.Words.{number_at, put_at}
+use Rattle.numbers.proofs.Places.{first_at, past}
 
 -- Reading
 
@@ -41,9 +42,9 @@ pub number_is : (w : ℕ) (s : List ℕ) (i v : ℕ) (rest : List ℕ) → v < 2
 unfolding number_at
 number_is zero s i v rest f d = omega arith
 number_is (suc w) s i v rest f d =
-    let first : get_or s (i + 0) 0 ≡ v % 256 = sym (get_or-drop i s 0 0) ∙ ap (λ (l : List ℕ). get_or l 0 0) d in
-    let others : drop (i + 1) s ≡ bytes w (v / 256) ++ rest = sym (drop-drop 1 i s) ∙ ap (drop 1) d in
-    omega (arith, rw add-zero at first, number_is w s (i + 1) (v / 256) rest (omega arith) others)
+    let first : get_or s i 0 ≡ v % 256 = first_at s i (bytes (suc w) v ++ rest) d in
+    let others : drop (i + 1) s ≡ bytes w (v / 256) ++ rest = past s i (v % 256 ∷ []) (bytes w (v / 256) ++ rest) d in
+    omega (arith, first, number_is w s (i + 1) (v / 256) rest (omega arith) others)
 
 -- equal bytes make equal numbers
 pub number_equal : (w : ℕ) (s s' : List ℕ) (i i' : ℕ) → ((k : ℕ) → k < w → get_or s' (i' + k) 0 ≡ get_or s (i + k) 0) → number_at w s' i' ≡ number_at w s i
