@@ -10,14 +10,13 @@ use lib.Dec.{eqb}
 use lib.ListN.{length}
 use borrow.Author.Tests.{eqb-true, eqb-false}
 use Rattle.definitions.specs.If.{when◌then◌else◌}
-use Rattle.definitions.specs.Usage.{Size}
 use Rattle.definitions.proofs.Choice.{decide}
 use Rattle.qptr.specs.Values.{size_of}
 use Rattle.qptr.specs.declared.MaxSize.{MaxSize}
 use Rattle.qptr.specs.declared.MaxSize.TheVariants.{Fixed, Dynamic}
 use Rattle.numbers.specs.Words.{number_at, word, put_at, put}
 use Rattle.numbers.proofs.Numbers.{length_put, number_put, number_put_other}
-use Rattle.records.specs.Records.{size_from, command_in, next_in, child_in, count_in, argument_in, offset_in, Cell, cell, with_next, with_child, with_count, with_size, with_argument, with_offset, with_type, full, alone, Set, Marked}
+use Rattle.records.specs.Records.{size_from, command_in, next_in, child_in, count_in, argument_in, offset_in, Cell, cell, with_next, with_child, with_count, with_size, with_argument, with_offset, with_type, full, Set, Marked}
 
 -- field k of a record, in their order: four of two bytes, then six of four
 
@@ -129,17 +128,6 @@ pub set_type : (s s₁ s₂ : List ℕ) (q c t : ℕ) → s₁ ≡ put_at 2 s (q
 set_type s s₁ s₂ q c t e₁ e₂ h fc ft =
     let l : length s₁ ≡ length s = length_stored 2 s s₁ (q * 32) c e₁ in
     set_again s s₁ s₂ q (with_type c (argument_in s q) (cell s q)) (with_argument t) (commanded s s₁ q c e₁ h fc) (set_argument s₁ s₂ q t e₂ (omega arith) ft)
-
-pub set_alone : (s s₁ s₂ s₃ s₄ s₅ s₆ : List ℕ) (q c : ℕ) (z : Size) (t o : ℕ) → Set s s₁ q (with_type c t (cell s q)) → Set s₁ s₂ q (with_next 0 (cell s₁ q)) → Set s₂ s₃ q (with_child 0 (cell s₂ q))
-    → Set s₃ s₄ q (with_count 1 (cell s₃ q)) → Set s₄ s₅ q (with_size z (cell s₄ q)) → Set s₅ s₆ q (with_offset o (cell s₅ q)) → Set s s₆ q (alone c z t o)
-set_alone s s₁ s₂ s₃ s₄ s₅ s₆ q c z t o A B C D E F =
-    let c₁ : Cell = with_type c t (cell s q) in
-    let c₂ : Cell = with_next 0 c₁ in
-    let c₃ : Cell = with_child 0 c₂ in
-    let c₄ : Cell = with_count 1 c₃ in
-    set_again s s₅ s₆ q (with_size z c₄) (with_offset o)
-    (set_again s s₄ s₅ q c₄ (with_size z) (set_again s s₃ s₄ q c₃ (with_count 1) (set_again s s₂ s₃ q c₂ (with_child 0) (set_again s s₁ s₂ q c₁ (with_next 0) A B) C) D) E)
-    F
 
 -- The spare words
 

@@ -1,4 +1,4 @@
-// Node records in lent bytes, linked: a node names its first child, and an entry the next one of its map. Nothing moves.
+// Node records of 32 bytes in lent bytes, linked: a node names its first child, and an entry the next one of its map. Nothing moves.
 #![tactic(auto)]
 
 ghost use Rattle.std.specs.Prelude.{◌≡◌, ◌+◌, ◌*◌, ◌<◌, ◌≤◌, length};
@@ -7,9 +7,6 @@ ghost use Rattle.records.specs.Records.{command_in, next_in, child_in, count_in,
 
 use numbers::{get16, get32, put16, put32};
 use qptr::{Kind, MaxSize};
-
-// The bytes of a record.
-pub const WIDTH: usize = 32;
 
 // The parts of record q, a function for each: what they share is a call of `numbers`. Each asks that the record lies within the area. A view
 // of one record would ask that once, but what writes goes on with the area, to the next record. A link is 0 where there is none, as it stands
