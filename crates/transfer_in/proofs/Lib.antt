@@ -1,5 +1,3 @@
-pub mod Commands
-pub mod Places
 pub mod Numbers
 pub mod Widths
 pub mod Pending

@@ -14,12 +14,12 @@ use Rattle.definitions.proofs.Written.{Bytes}
 use Rattle.definitions.proofs.Rounds.{read_write}
 use Rattle.records.specs.Records.{command_in, Cell, cell}
 use Rattle.transfer_in.specs.Nodes.{front_behind, own, OwnAt}
-use Rattle.transfer_in.specs.Loading.{behind, onward, Bare, FirstBare, Raw, Linked, RawAt, AllTied, OwnLoaded, Loadable, NodesLoaded, Loaded}
+use Rattle.transfer_in.specs.Loading.{behind, onward, Bare, FirstBare, Raw, Linked, AllTied, OwnLoaded, Loadable, NodesLoaded, Loaded}
 use Rattle.transfer_in.proofs.Fits.{Fit, behind_fit, own_fits}
 use Rattle.transfer_in.proofs.Linked.{linked_at, linked_stands}
 use Rattle.transfer_in.proofs.Onward.{onward_nodes, no_node, Node, node}
 use Rattle.transfer_in.proofs.Pending.{pending, own_first}
-use Rattle.transfer_in.proofs.Places.{inside}
+use Rattle.numbers.proofs.Places.{inside}
 
 abbrev pub whole : Usage → Entries
 whole u = entry 0 u none
@@ -142,15 +142,6 @@ begins_inside {s} {at} small L =
 -- All nodes are loaded, and then linked
 
 module _ {s : List ℕ} {at n : ℕ} {work : List ℕ} {q : ℕ} {work₁ : List ℕ} {r : ℕ} (L : Loadable s at n work q) (R : NodesLoaded s at work q work₁ r) where
-  pub raw_at : length work₁ ≡ length work → RawAt work₁ q n
-  raw_at len = record {
-    usage = L.usage;
-    raw = R.raw L.usage L.rest L.reads;
-    many = L.many;
-    inside = omega (arith, L.inside);
-    few = L.few;
-  }
-
   pub loaded : {work₂ : List ℕ} → length work₁ ≡ length work → length work₂ ≡ length work₁ → AllTied work₁ q n work₂ → Loaded s at work q work₂ r
   loaded {work₂} len len' T =
       let linked : (u : Usage) (rest : List ℕ) → read_node (drop at s) ≡ read u rest → Linked u work₂ q 0 = λ u rest e.

@@ -11,7 +11,7 @@ use Rattle.records.specs.Records.{size_from}
 use Rattle.numbers.specs.Words.{number_at}
 use Rattle.numbers.proofs.Numbers.{number_is}
 use Rattle.transfer_in.specs.Nodes.{size_at}
-use Rattle.transfer_in.proofs.Places.{first_at, past}
+use Rattle.numbers.proofs.Places.{first_at, past}
 
 pub size_dynamic : (w : ℕ) (s : List ℕ) (i : ℕ) → get_or s i 0 ≡ 0 → dynamic ≡ size_at w s i
 unfolding size_at

@@ -16,9 +16,9 @@ use Rattle.records.specs.Records.{alone, Set}
 use Rattle.numbers.specs.Widths.{SizeWidth, own_width}
 use Rattle.transfer_in.specs.Nodes.{size_at, own, OwnAt}
 use Rattle.transfer_in.specs.Loading.{OwnReady, OwnLoaded}
-use Rattle.transfer_in.proofs.Commands.{head_size_lem}
+use Rattle.qptr.proofs.Usages.{head_size}
 use Rattle.transfer_in.proofs.Numbers.{size_is}
-use Rattle.transfer_in.proofs.Places.{first_at, past, inside}
+use Rattle.numbers.proofs.Places.{first_at, past, inside}
 use Rattle.transfer_in.proofs.Widths.{own_length}
 
 past_at : (s : List ℕ) (i j : ℕ) (xs ys : List ℕ) → i + length xs ≡ j → drop i s ≡ xs ++ ys → drop j s ≡ ys
@@ -75,7 +75,7 @@ module _ {s : List ℕ} {at front : ℕ} {work : List ℕ} {q : ℕ} (R : OwnRea
           rw known (size_is _ s _ _ _ (node_size_width u).some (size_fits u A.size) P.size) in
           let argument-is-read : number_at row.argument s (at + front + 1 + row.size) ≡ (head_of u).argument =
           rw known (number_is _ s _ _ rest A.argument P.argument) in
-          W.here ∙ cc (command ∙ P.command, size-read ∙ size-is-read ∙ head_size_lem u, argument ∙ argument-is-read, offset ∙ number_is front s at p _ A.offset P.offset);
+          W.here ∙ cc (command ∙ P.command, size-read ∙ size-is-read ∙ head_size u, argument ∙ argument-is-read, offset ∙ number_is front s at p _ A.offset P.offset);
       behind = λ p u rest A.
           let P = parts A in
           let known : row ≡ command_at (head_of u).command = e ∙ ap command_at P.command in

@@ -16,7 +16,7 @@ use Rattle.qptr.proofs.Nodes.{kind_head}
 use Rattle.records.specs.Records.{command_in, count_in, argument_in, Cell, cell, with_next, with_child, with_count, with_argument, full, Set}
 use Rattle.records.proofs.Writing.{set_again}
 use Rattle.transfer_in.specs.Loading.{Bare, first_of, Linked, EntriesLinked, Apart, EntriesOf, EntriesTied, Ripe, RipeAt, Tied}
-use Rattle.transfer_in.proofs.Commands.{is_map, AnArray, is_array}
+use Rattle.qptr.proofs.Usages.{is_map, AnArray, is_array}
 use Rattle.transfer_in.proofs.Linked.{linked_with, entries_move, count_is}
 use Rattle.transfer_in.proofs.Tying.{no_entry, first_some}
 

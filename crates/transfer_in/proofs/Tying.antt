@@ -8,6 +8,7 @@ use native.Mathlib.Omega.{arith}
 use lib.ListN.{length}
 use Rattle.definitions.specs.Usage.{Usage, Entries, none, entry, nodes, nodes_in, count}
 use Rattle.definitions.proofs.Nodes.{some_node}
+use Rattle.qptr.proofs.Usages.{count_nodes}
 use Rattle.records.specs.Records.{next_in, count_in, Cell, cell, with_next, Set}
 use Rattle.transfer_in.specs.Loading.{first_of, Linked, EntriesLinked, Apart, KeptBelow, KeptOutside, EntriesOf, EntriesTied}
 use Rattle.transfer_in.proofs.Linked.{linked_with, apart_move, count_is}
@@ -19,10 +20,6 @@ first_some (entry o u es) q h = refl
 pub no_entry : (es : Entries) → count es ≡ 0 → es ≡ none
 no_entry none e = refl
 no_entry (entry o u es) e = absurd (omega arith)
-
-some_nodes : (es : Entries) → count es ≤ nodes_in es
-some_nodes none = omega arith
-some_nodes (entry o u es) = omega (arith, some_node u, some_nodes es)
 
 -- The i-th entry of es stands at record p, and the others behind it. Those in front of it are linked, and whatever changes from p on,
 -- once the others are linked all are. Nothing else has changed.
@@ -106,11 +103,8 @@ module _ {s₀ s : List ℕ} {q k p i : ℕ} (T : Ties s₀ s q k p i) where
     pub entry_inside : p * 32 + 32 ≤ length s
     entry_inside = let H = this_entry in omega (arith, some_node H.usage, H.ends, E.inside)
 
-    pub entry_ends : {m : ℕ} → m ≡ count_in s p → p + m ≤ 65536
-    entry_ends e = let H = this_entry in omega (arith, e ∙ count_is H.usage s p H.offset H.here, H.ends, E.few)
-
     pub entry_more : {m : ℕ} → m ≡ count_in s p → i < k → p + m < 65536
-    entry_more e lt = let H = this_entry in omega (arith, e ∙ count_is H.usage s p H.offset H.here, H.ends, E.few, H.many, E.many, some_nodes H.others)
+    entry_more e lt = let H = this_entry in omega (arith, e ∙ count_is H.usage s p H.offset H.here, H.ends, E.few, H.many, E.many, count_nodes H.others)
 
     pub tied : {m : ℕ} → k ≤ i → m ≡ count_in s p → EntriesTied s₀ q k s (p + m)
     tied {m} over e =
@@ -121,6 +115,6 @@ module _ {s₀ s : List ℕ} {q k p i : ℕ} (T : Ties s₀ s q k p i) where
           linked = λ es A many. (tied_last (T.of es A many) (omega arith)).0;
           behind = ends;
           kept = λ es A many. kept_last (T.of es A many);
-          some = omega (arith, ends E.entries E.stand E.many, some_nodes E.entries, E.many, E.some);
+          some = omega (arith, ends E.entries E.stand E.many, count_nodes E.entries, E.many, E.some);
           few = omega (arith, ends E.entries E.stand E.many, E.few);
         }

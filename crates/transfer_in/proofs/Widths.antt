@@ -1,7 +1,7 @@
 -- The offset in front of a node: as long as the kind of the node before it says.
 -- Assumes nothing.
 use Prim.Native.Nat.{ℕ, ◌+◌}
-use mathlib.Core.Path.{◌≡◌, refl, sym, ap, ◌∙◌}
+use mathlib.Core.Path.{◌≡◌, refl, ap, ◌∙◌}
 use native.Mathlib.Omega.{arith}
 use borrow.Author.Tests.{eq-eqb, ne_eqb}
 use lib.Dec.{eqb}
@@ -15,7 +15,7 @@ use Rattle.definitions.proofs.Numbers.{bytes_length}
 use Rattle.qptr.specs.declared.Kind.{Kind}
 use Rattle.qptr.specs.declared.Kind.TheVariants.{DynOffsetBase}
 use Rattle.qptr.specs.Values.{kind_of}
-use Rattle.qptr.proofs.Nodes.{known_command}
+use Rattle.qptr.proofs.Nodes.{array_command}
 use Rattle.numbers.specs.Words.{Width}
 use Rattle.numbers.specs.Widths.{own_width}
 use Rattle.numbers.proofs.Widths.{head_length}
@@ -23,9 +23,7 @@ use Rattle.transfer_in.specs.Nodes.{front_behind, own}
 
 pub front_array : (k : Kind) (c : ℕ) → k ≡ kind_of c → k ≡ DynOffsetBase → 0 ≡ front_behind c
 unfolding front_behind when◌then◌else◌
-front_array k c e h =
-    let four : c ≡ 4 = known_command c DynOffsetBase (sym h ∙ e) (λ z. cc) in
-    rw (eq-eqb c 4 four) refl
+front_array k c e h = rw (eq-eqb c 4 (array_command e h)) refl
 
 pub front_other : (k : Kind) (c : ℕ) → k ≡ kind_of c → (k ≡ DynOffsetBase → ⊥) → 4 ≡ front_behind c
 unfolding front_behind when◌then◌else◌
