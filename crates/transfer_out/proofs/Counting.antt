@@ -15,6 +15,15 @@ use Rattle.links.proofs.Rows.{Head, head, end_0}
 use Rattle.links.proofs.Chains.{chain_many}
 use Rattle.transfer_out.specs.Writing.{Listed, CountIs}
 
+-- from one entry to the next fewer are linked
+pub row_less : (es : Entries) (s : List ℕ) (p p' : ℕ) (rank : ℕ → ℕ) (lo hi : ℕ) → (p ≡ 0 → ⊥) → p' ≡ next_in s p → count es ≤ 65536 → Row es s p 0 rank lo hi → chain 65536 s p' < chain 65536 s p
+row_less es s p p' rank lo hi ne e few row =
+    let H = head es s p 0 rank lo hi ne row in
+    let n = ap count H.is in
+    let x : chain 65536 s p ≡ count es = chain_many 65536 es s p rank lo hi few row in
+    let y : chain 65536 s (next_in s p) ≡ count H.rest = chain_many 65536 H.rest s (next_in s p) rank H.m hi (omega arith) H.row in
+    omega (arith, x, y, ap (chain 65536 s) e)
+
 -- k entries are passed, and the others are linked from record p on
 pub record Passed (es : Entries) (s : List ℕ) (p k : ℕ) (rank : ℕ → ℕ) (hi : ℕ) : Type 0 where
   pub left : Entries
@@ -26,9 +35,6 @@ pub record Passed (es : Entries) (s : List ℕ) (p k : ℕ) (rank : ℕ → ℕ)
 pub record Counting (s : List ℕ) (q p k : ℕ) : Type 0 where
   pub from : Listed s q
   pub of : (es : Entries) (rank : ℕ → ℕ) (lo hi : ℕ) → Row es s q 0 rank lo hi → Passed es s p k rank hi
-
-pub count_none : (s : List ℕ) (q : ℕ) → Listed s q → Counting s q q 0
-count_none s q L = record { from = L; of = λ es rank lo hi h. record { left = es; m = lo; row = h; many = omega arith } }
 
 module _ (s : List ℕ) (q p k : ℕ) (C : Counting s q p k) (ne : p ≡ 0 → ⊥) where
   L : Listed s q
@@ -56,12 +62,7 @@ module _ (s : List ℕ) (q p k : ℕ) (C : Counting s q p k) (ne : p ≡ 0 → �
   }
 
   pub count_less : (p' : ℕ) → p' ≡ next_in s p → chain 65536 s p' < chain 65536 s p
-  count_less p' e =
-      let n = here.many in
-      let i = ap count first.is in
-      let x : chain 65536 s p ≡ count here.left = chain_many 65536 here.left s p L.rank here.m L.hi (omega (arith, L.small)) here.row in
-      let y : chain 65536 s (next_in s p) ≡ count first.rest = chain_many 65536 first.rest s (next_in s p) L.rank first.m L.hi (omega (arith, L.small)) first.row in
-      omega (arith, x, y, ap (chain 65536 s) e)
+  count_less p' e = row_less here.left s p p' L.rank here.m L.hi ne e (omega (arith, here.many, L.small)) here.row
 
 pub count_all : (s : List ℕ) (q p k : ℕ) → Counting s q p k → p ≡ 0 → CountIs s q k
 count_all s q p k C e = record {

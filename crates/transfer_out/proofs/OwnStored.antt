@@ -1,16 +1,17 @@
 -- A node's own bytes, stored one part behind the other.
 -- Assumes nothing.
 use Prim.Native.Nat.{ℕ, ◌+◌, ◌≤◌}
-use mathlib.Core.Path.{◌≡◌, refl}
+use mathlib.Core.Path.{◌≡◌}
 use mathlib.Core.List.{List, [], ◌∷◌}
 use native.Mathlib.Omega.{arith}
 use lib.ListN.{length}
-use Rattle.definitions.specs.Usage.{Size, Usage, unused, leaf, map, array, size}
+use Rattle.definitions.specs.Usage.{Size}
 use Rattle.definitions.specs.Command.{Command, command_at, head_of}
 use Rattle.definitions.specs.Stream.{bytes, write_size, write_head}
 use Rattle.numbers.specs.Words.{Width}
 use Rattle.qptr.specs.declared.Kind.{Kind}
 use Rattle.qptr.specs.Values.{command_of, kind_of}
+use Rattle.qptr.proofs.Usages.{head_size}
 use Rattle.numbers.specs.Widths.{SizeWidth, own_width}
 use Rattle.numbers.proofs.Widths.{argument_width_lem, kind_size_width, size_length}
 use Rattle.records.specs.Records.{command_in, size_in}
@@ -44,18 +45,12 @@ own_room s q out at k F e =
     let P = F.standing in
     rw (command_of_root P.usage s q k P.rank P.lo P.hi e P.stands) F.room
 
-head_size_lem : (u : Usage) → (head_of u).size ≡ size u
-head_size_lem (unused z) = refl
-head_size_lem (leaf z k t) = refl
-head_size_lem (map z es) = refl
-head_size_lem (array z n e) = refl
-
 pub own_stored : (s : List ℕ) (q : ℕ) (k : Kind) (z : Size) (a : ℕ) {o o' : Output} → Onto (Put (write_head (record { command = command_of k; size = z; argument = a }))) o o' → k ≡ kind_of (command_in s q)
     → z ≡ size_in s q → ArgumentIs s q a → Onto (OwnPut s q) o o'
 own_stored s q k z a {o} {o'} H kind size-read argument = onto_as (λ (P : Put (write_head (record { command = command_of k; size = z; argument = a })) o.buffer.now o.at o'.buffer.now o'.at). record {
   of = λ u rank lo hi stands.
       let R = stands_root u s q rank lo hi stands in
       let same_command = command_of_root u s q k rank lo hi kind stands in
-      let head : write_head (record { command = command_of k; size = z; argument = a }) ≡ write_head (head_of u) = cc (same_command, R.size, head_size_lem u, argument.of u rank lo hi stands) in
+      let head : write_head (record { command = command_of k; size = z; argument = a }) ≡ write_head (head_of u) = cc (same_command, R.size, head_size u, argument.of u rank lo hi stands) in
       rw head at P;
 }) H

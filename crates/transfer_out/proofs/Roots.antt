@@ -1,17 +1,17 @@
 -- What is read at the root of a usage: its kind is its own part's, and its argument is the one that is written.
 -- Assumes nothing.
-use Prim.Native.Nat.{ℕ, suc, ◌≤◌}
+use Prim.Native.Nat.{ℕ, suc}
 use mathlib.Core.Path.{◌≡◌, refl, ap, sym, ◌∙◌, subst}
 use mathlib.Core.List.{List}
 use native.Mathlib.Omega.{arith}
-use Rattle.definitions.specs.Usage.{Usage, unused, leaf, map, array, Entries, none, entry, nodes, nodes_in, count}
+use Rattle.definitions.specs.Usage.{Usage, unused, leaf, map, array, nodes, count}
 use Rattle.definitions.specs.Command.{head_of, command_at, argument_width}
 use Rattle.definitions.specs.Stream.{bytes}
-use Rattle.definitions.proofs.Nodes.{some_node}
 use Rattle.qptr.specs.declared.Kind.{Kind}
 use Rattle.qptr.specs.declared.Kind.TheVariants.{OffsetBase}
 use Rattle.qptr.specs.Values.{command_of, kind_of}
 use Rattle.qptr.proofs.Nodes.{kind_head, map_command}
+use Rattle.qptr.proofs.Usages.{count_nodes}
 use Rattle.records.specs.Records.{command_in, child_in, argument_in}
 use Rattle.links.specs.Standing.{Stands, Row}
 use Rattle.links.proofs.Stands.{stands_root}
@@ -20,10 +20,6 @@ use Rattle.transfer_out.specs.Writing.{Readable, Listed, CountIs, ArgumentIs}
 
 pub command_of_root : (u : Usage) (s : List ℕ) (q : ℕ) (c : Kind) (rank : ℕ → ℕ) (lo hi : ℕ) → c ≡ kind_of (command_in s q) → Stands u s q rank lo hi → command_of c ≡ (head_of u).command
 command_of_root u s q c rank lo hi e h = sym (kind_head c u (e ∙ ap kind_of (stands_root u s q rank lo hi h).command))
-
-pub count_nodes : (es : Entries) → count es ≤ nodes_in es
-count_nodes none = omega arith
-count_nodes (entry o u es) = omega (arith, some_node u, count_nodes es)
 
 -- a map's argument is the count of its entries
 

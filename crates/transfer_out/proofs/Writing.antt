@@ -6,7 +6,7 @@ use mathlib.Core.Path.{◌≡◌, refl, ap, sym, ◌∙◌, subst}
 use mathlib.Core.List.{List, [], ◌++◌, append_assoc, append-nil}
 use native.Mathlib.Omega.{arith}
 use lib.ListN.{length, length-append}
-use Rattle.definitions.specs.Usage.{Size, Usage, unused, leaf, map, array, Entries, none, size, nodes, nodes_in, count}
+use Rattle.definitions.specs.Usage.{Size, Usage, unused, leaf, map, array, Entries, none, size, nodes, nodes_in}
 use Rattle.definitions.specs.Command.{head_of}
 use Rattle.definitions.specs.Stream.{bytes, write_head, write_node, write_entries}
 use Rattle.definitions.proofs.Numbers.{bytes_length}
@@ -19,11 +19,11 @@ use Rattle.links.specs.Standing.{Stands, Row}
 use Rattle.links.specs.Rows.{chain, nodes_at}
 use Rattle.links.proofs.Stands.{stands_root}
 use Rattle.links.proofs.Rows.{head, end_0}
-use Rattle.links.proofs.Chains.{chain_many}
 use Rattle.links.proofs.Weights.{nodes_at_lem}
 use Rattle.links.proofs.Shapes.{map_of, array_of}
 use Rattle.transfer_out.specs.Writing.{Readable}
-use Rattle.transfer_out.proofs.Roots.{count_nodes}
+use Rattle.transfer_out.proofs.Counting.{row_less}
+use Rattle.qptr.proofs.Usages.{count_nodes}
 
 -- A node alone, an array
 
@@ -236,11 +236,4 @@ module _ {Done : List ℕ → Type 0} (s : List ℕ) (q i base limit : ℕ) (W :
   pub writing_less : (i' : ℕ) → i' ≡ next_in s i → chain 65536 s i' < chain 65536 s i
   writing_less i' e =
       let S = W.of B.entries P.rank (suc (P.rank q)) P.hi B.row in
-      let H = head S.left s i 0 P.rank S.m P.hi ne S.row in
-      let c = count_nodes S.left in
-      let f = S.fewer in
-      let m = B.many in
-      let n = ap count H.is in
-      let x : chain 65536 s i ≡ count S.left = chain_many 65536 S.left s i P.rank S.m P.hi (omega (arith, P.small)) S.row in
-      let y : chain 65536 s (next_in s i) ≡ count H.rest = chain_many 65536 H.rest s (next_in s i) P.rank H.m P.hi (omega (arith, P.small)) H.row in
-      omega (arith, x, y, ap (chain 65536 s) e)
+      row_less S.left s i i' P.rank S.m P.hi ne e (omega (arith, count_nodes S.left, S.fewer, B.many, P.small)) S.row
