@@ -1,7 +1,7 @@
 -- The loop over a map's entries: of those that are left, from the place where the last one ended, the answer is the same.
 -- Assumes nothing.
 use Prim.Native.Nat.{ℕ, ◌+◌, ◌<◌, ◌≤◌}
-use mathlib.Core.Path.{◌≡◌, refl, sym, ◌∙◌}
+use mathlib.Core.Path.{◌≡◌, sym, ◌∙◌}
 use mathlib.Core.Bool.{Bool, true, false, ◌&&◌}
 use mathlib.Core.List.{List}
 use native.Mathlib.Omega.{arith}
@@ -22,9 +22,6 @@ use Rattle.soundness.proofs.Rows.{Left, First, first, none_left, first_stands, c
 -- whichever entries stood from record `from` to `to`, some of them are left from record q on, after the place p
 pub record Chaining (s : List ℕ) (from to : ℕ) (y : Size) (q : ℕ) (p : Size) : Type 0 where
   pub of : (es : Entries) → EntriesAt es s from → from + nodes_in es ≡ to → Left s q to (following p y) (following (fixed 0) y es)
-
-pub chaining_all : {s : List ℕ} {from to : ℕ} {y : Size} → Chaining s from to y from (fixed 0)
-chaining_all = record { of = λ es r e. record { entries = es; stand = r; upto = e; same = refl } }
 
 pub chaining_stands : (s : List ℕ) (from to : ℕ) (y : Size) (q : ℕ) (p : Size) → Row s from to → Chaining s from to y q p → q < to → Standing s q
 chaining_stands s from to y q p R C lt = first_stands (first (C.of R.entries R.stand R.upto) lt) R.inside R.few

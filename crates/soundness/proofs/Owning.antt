@@ -12,6 +12,7 @@ use Rattle.qptr.specs.declared.Kind.{Kind}
 use Rattle.qptr.specs.declared.Kind.TheVariants.{Unused, StrictlyTyped, DirectAccess, OffsetBase, DynOffsetBase}
 use Rattle.qptr.specs.Values.{command_of, kind_of}
 use Rattle.qptr.proofs.Nodes.{kind_head}
+use Rattle.qptr.proofs.Usages.{is_map, is_array}
 use Rattle.definitions.specs.Usage.{Size, fixed, Usage, unused, leaf, map, array, Entries, size, nodes}
 use Rattle.definitions.specs.Command.{head_of}
 use Rattle.definitions.specs.Place.{past32, ◌≤ˢ◌}
@@ -23,23 +24,7 @@ use Rattle.soundness.specs.Own.{following, fills, own}
 use Rattle.soundness.specs.Standing.{Standing, Row, Counted, Chained, Owned}
 use Rattle.soundness.proofs.Rows.{counted_nodes}
 
--- which usages have a map's command, and an array's
-
-as_map : (u : Usage) → (head_of u).command ≡ 3 → (z : Size) × ((es : Entries) × (u ≡ map z es))
-as_map (unused z) e = absurd (omega arith)
-as_map (leaf z true t) e = absurd (omega arith)
-as_map (leaf z false t) e = absurd (omega arith)
-as_map (map z es) e = (z, (es, refl))
-as_map (array z n e) h = absurd (omega arith)
-
-as_array : (u : Usage) → (head_of u).command ≡ 4 → (z : Size) × ((n : ℕ) × ((e : Usage) × (u ≡ array z n e)))
-as_array (unused z) e = absurd (omega arith)
-as_array (leaf z true t) e = absurd (omega arith)
-as_array (leaf z false t) e = absurd (omega arith)
-as_array (map z es) e = absurd (omega arith)
-as_array (array z n e) h = (z, (n, (e, refl)))
-
--- what they hold stands from the next record on
+-- what a map and an array hold stands from the next record on
 
 command_at_lem : (s : List ℕ) (q : ℕ) (k : Kind) → k ≡ kind_of (command_in s q) → (u : Usage) (o : ℕ) → At u s q o → (head_of u).command ≡ command_of k
 command_at_lem s q k e u o r = kind_head k u (e ∙ ap kind_of (root_of u s q o r).1.command)
@@ -51,16 +36,14 @@ module _ (s : List ℕ) (q : ℕ) (k : Kind) (kind_is : k ≡ kind_of (command_i
   pub map_row : (end : ℕ) → k ≡ OffsetBase → Counted s q end → Row s (q + 1) end
   unfolding At
   map_row end e C =
-      let m = as_map S.usage (command_of_usage e) in
-      let es : Entries = m.1.0 in
-      let r : At (map m.0 es) s q S.offset = rw m.1.1 at S.stands in
-      record { entries = es; stand = rw add-one r.1; upto = omega (arith, counted_nodes (map m.0 es) S.offset r C); inside = C.inside; few = C.few }
+      let m = is_map S.usage (command_of_usage e) in
+      let r : At (map m.size m.entries) s q S.offset = rw m.same at S.stands in
+      record { entries = m.entries; stand = rw add-one r.1; upto = omega (arith, counted_nodes (map m.size m.entries) S.offset r C); inside = C.inside; few = C.few }
 
   pub array_room : k ≡ DynOffsetBase → (q + 1) * 32 + 32 ≤ length s
   array_room e =
-      let m = as_array S.usage (command_of_usage e) in
-      let n : nodes S.usage ≡ suc (nodes m.1.1.0) = ap nodes m.1.1.1 in
-      omega (arith, some_node m.1.1.0)
+      let m = is_array S.usage (command_of_usage e) in
+      omega (arith, some_node m.element, ap nodes m.same)
 
 -- the own rules, once the size is tested
 
@@ -130,26 +113,26 @@ module _ (s : List ℕ) (q : ℕ) (k : Kind) (y : Size) (kind_is : k ≡ kind_of
       unfolding At
       own_map end b e f C K = record {
         of = λ u o r.
-            let m = as_map u (command_of_root e u o r) in
-            let z : Size = m.0 in
-            let es : Entries = m.1.0 in
-            let r' : At (map z es) s q o = rw m.1.1 at r in
+            let m = is_map u (command_of_root e u o r) in
+            let z : Size = m.size in
+            let es : Entries = m.entries in
+            let r' : At (map z es) s q o = rw m.same at r in
             let same_size : y ≡ z = size_at_lem (map z es) o r' in
             let answer : b ≡ following (fixed 0) y es = K.of es (rw add-one r'.1) (omega (arith, counted_nodes (map z es) o r' C)) in
-            rw (m.1.1, map_keeps z (rw same_size at small) (rw same_size at (sym some_is ∙ f)) es) (answer ∙ ap (λ (x : Size). following (fixed 0) x es) same_size);
+            rw (m.same, map_keeps z (rw same_size at small) (rw same_size at (sym some_is ∙ f)) es) (answer ∙ ap (λ (x : Size). following (fixed 0) x es) same_size);
       }
 
       pub own_array : (n : ℕ) (z : Size) (b : Bool) → k ≡ DynOffsetBase → some ≡ true → n ≡ argument_in s q → z ≡ size_in s (q + 1) → b ≡ fills n z → Owned s q b
       unfolding At
       own_array n z b e f stride_is element-is h = record {
         of = λ u o r.
-            let m = as_array u (command_of_root e u o r) in
-            let y' : Size = m.0 in
-            let n' : ℕ = m.1.0 in
-            let v : Usage = m.1.1.0 in
-            let r' : At (array y' n' v) s q o = rw m.1.1.1 at r in
+            let m = is_array u (command_of_root e u o r) in
+            let y' : Size = m.size in
+            let n' : ℕ = m.stride in
+            let v : Usage = m.element in
+            let r' : At (array y' n' v) s q o = rw m.same at r in
             let same_size : y ≡ y' = size_at_lem (array y' n' v) o r' in
             let same-stride : n ≡ n' = stride_is ∙ r'.0.argument in
             let same-element : z ≡ size v = (rw add-one at element-is) ∙ (root_of v s (suc q) r'.1.0 r'.1.1).1.size in
-            rw (m.1.1.1, array_keeps y' (rw same_size at small) (rw same_size at (sym some_is ∙ f)) n' v, ← same-stride, ← same-element) h;
+            rw (m.same, array_keeps y' (rw same_size at small) (rw same_size at (sym some_is ∙ f)) n' v, ← same-stride, ← same-element) h;
       }
