@@ -2,15 +2,10 @@
 -- nothing, or it is still to come.
 -- Assumes nothing.
 use Rattle.std.proofs.Common.{◌≡◌, ℕ, ◌<◌, ◌⊎◌, List, length, sym, ◌∙◌, subst, inl, inr, ⊎_elim, arith}
-use native.Mathlib.Decide.{ℕ_discrete}
-use Rattle.qptr.specs.Values.{command_of, kind_of}
-use Rattle.qptr.specs.declared.Kind.{Kind}
-use Rattle.qptr.specs.declared.Kind.TheVariants.{Unused, StrictlyTyped, DirectAccess, OffsetBase, DynOffsetBase}
 use Rattle.records.specs.Records.{command_in, next_in, child_in, tag_in, Marked}
 use Rattle.links.specs.Rows.{nodes_at}
 use Rattle.support_memory.specs.Nodes.{UsageAt, Unchanged, Along, Child, Below, Blank, Forgotten}
-use Rattle.support_memory.proofs.Staying.{unchanged_none, unchanged_both, unchanged_marked, command_stays, next_stays, child_stays, child_back, below_back, usage_marked}
-use Rattle.support_memory.proofs.Roots.{command_is}
+use Rattle.support_memory.proofs.Staying.{unchanged_none, unchanged_both, unchanged_marked, next_stays, child_back, below_back, usage_marked}
 use Rattle.support_memory.proofs.Linked.{nodes_stay}
 
 -- a node's tag, and that of each of its children's nodes
@@ -24,60 +19,13 @@ blank_by s q t f = record { tags = λ i h. go h t f }
 blank_stays : {s s' : List ℕ} {q : ℕ} → Unchanged s s' → ((i : ℕ) → tag_in s i ≡ 0 → tag_in s' i ≡ 0) → Blank s q → Blank s' q
 blank_stays U f B = record { tags = λ i h. f i (B.tags i (below_back U h)) }
 
-marked_stays : {s s' : List ℕ} {q : ℕ} → Marked s s' q 0 0 → (i : ℕ) → tag_in s i ≡ 0 → tag_in s' i ≡ 0
-marked_stays {q = q} m i t = elim (ℕ_discrete i q) [ yes e ↦ rw e m.tag | no ne ↦ m.tags i ne ∙ t ]
-
-no_child : (s : List ℕ) (q e : ℕ) → command_in s q < 3 → Child s q e → ⊥
-no_child s q e l (Child.element k x) = omega arith
-no_child s q e l (Child.entry k h) = omega arith
-
--- the element
-
-only_element : (s : List ℕ) (q e : ℕ) → command_in s q ≡ 4 → Child s q e → e ≡ child_in s q
-only_element s q e k (Child.element y x) = x
-only_element s q e k (Child.entry y h) = absurd (omega arith)
-
-pub forgot_element : {s s' : List ℕ} {q c : ℕ} → command_in s q ≡ 4 → tag_in s q ≡ 0 → c ≡ child_in s q → Forgotten s s' c → Forgotten s s' q
-forgot_element {s} {s'} {q} {c} k t z F =
-    let U = F.records in
-    record {
-      records = U;
-      blank = blank_by s' q (F.stays q t) (λ e h. subst (Blank s') (z ∙ sym (child_stays U q) ∙ sym (only_element s' q e (command_stays U q ∙ k) h)) F.blank);
-      stays = F.stays;
-    }
-
--- A node has forgotten, and then what is below it.
-
+-- where a node has forgotten, its usage still stands, of as many nodes
 module _ {s s₁ : List ℕ} {q : ℕ} (w : UsageAt s q) (m : Marked s s₁ q 0 0) (l : length s₁ ≡ length s) where
   pub marked_usage : UsageAt s₁ q
   marked_usage = usage_marked w m l
 
   pub marked_nodes : nodes_at s₁ q ≡ nodes_at s q
   marked_nodes = nodes_stay (unchanged_marked m l) w
-
-  forgot_all : {s₂ : List ℕ} → Forgotten s₁ s₂ q → Forgotten s s₂ q
-  forgot_all F = record {
-    records = unchanged_both (unchanged_marked m l) F.records;
-    blank = F.blank;
-    stays = λ i t. F.stays i (marked_stays m i t);
-  }
-
-  module _ {k : Kind} (x : k ≡ kind_of (command_in s₁ q)) where
-    pub forgot_leaf : (k ≡ Unused) ⊎ ((k ≡ StrictlyTyped) ⊎ (k ≡ DirectAccess)) → Forgotten s s₁ q
-    forgot_leaf h =
-        let is : (v : Kind) → k ≡ v → command_in s₁ q ≡ command_of v = command_is marked_usage x in
-        let leaf : command_in s₁ q < 3 = ⊎_elim (λ e. omega (arith, is Unused e)) (⊎_elim (λ e. omega (arith, is StrictlyTyped e)) (λ e. omega (arith, is DirectAccess e))) h in
-        record {
-          records = unchanged_marked m l;
-          blank = blank_by s₁ q m.tag (λ e c. absurd (no_child s₁ q e leaf c));
-          stays = marked_stays m;
-        }
-
-    pub forgot_map : {s₂ : List ℕ} → k ≡ OffsetBase → Forgotten s₁ s₂ q → Forgotten s s₂ q
-    forgot_map h F = forgot_all F
-
-    pub forgot_array : {s₂ : List ℕ} → k ≡ DynOffsetBase → Forgotten s₁ s₂ q → Forgotten s s₂ q
-    forgot_array h F = forgot_all F
 
 -- the entries, of which those from record e on are still to come
 

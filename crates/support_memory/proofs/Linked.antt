@@ -1,19 +1,19 @@
 -- The element of an array and the entries of a map are usages themselves, with fewer nodes; entries come one after the other along
 -- their links, and there are fewer and fewer of them.
 -- Assumes nothing.
-use Rattle.std.proofs.Common.{◌≡◌, ℕ, suc, ◌+◌, ◌<◌, ◌≤◌, List, sym, ap, ◌∙◌, subst, arith}
+use Rattle.std.proofs.Common.{◌≡◌, ℕ, suc, ◌+◌, ◌<◌, List, sym, ap, ◌∙◌, subst, arith}
 use Rattle.definitions.specs.Limits.{node_limit}
-use Rattle.definitions.specs.Usage.{Entries, none, entry, count, nodes, nodes_in}
-use Rattle.definitions.proofs.Nodes.{some_node}
+use Rattle.definitions.specs.Usage.{Entries, count, nodes, nodes_in}
+use Rattle.qptr.proofs.Usages.{count_nodes}
 use Rattle.records.specs.Records.{command_in, next_in, child_in}
-use Rattle.links.specs.Standing.{Stands, Row}
+use Rattle.links.specs.Standing.{Row}
 use Rattle.links.specs.Rows.{chain, nodes_at}
 use Rattle.links.proofs.Stands.{stands_root}
 use Rattle.links.proofs.Rows.{Head, head}
 use Rattle.links.proofs.Chains.{chain_many}
 use Rattle.links.proofs.Weights.{nodes_at_lem}
-use Rattle.support_memory.specs.Nodes.{UsageAt, Unchanged, Along, Child, Child.entry}
-use Rattle.support_memory.proofs.Roots.{on_map, on_array}
+use Rattle.links.proofs.Shapes.{map_of, array_of}
+use Rattle.support_memory.specs.Nodes.{UsageAt, Unchanged, Along, Child}
 use Rattle.support_memory.proofs.Staying.{usage_after}
 
 pub nodes_are : {s : List ℕ} {q : ℕ} (w : UsageAt s q) → nodes_at s q ≡ nodes w.usage
@@ -29,23 +29,23 @@ record Element (s : List ℕ) (q : ℕ) : Type 0 where
   smaller : nodes_at s (child_in s q) < nodes_at s q
 
 element_of_lem : {s : List ℕ} {q : ℕ} → child_in s q < 65536 → command_in s q ≡ 4 → UsageAt s q → Element s q
-unfolding Stands
 element_of_lem {s} {q} l k w =
-    on_array (λ v. nodes_at s q ≡ nodes v → nodes v ≤ node_limit → Element s q) s q w.rank w.lo w.hi k
-    (λ z n e a x few.
-    let e-few : nodes e ≤ node_limit = omega arith in
-    let v : UsageAt s (child_in s q) = record {
-      usage = e;
-      rank = w.rank;
-      lo = suc (w.rank q);
-      hi = w.hi;
-      stands = a.2;
-      few = e-few;
-      within = (stands_root e s (child_in s q) w.rank (suc (w.rank q)) w.hi a.2).inside;
-      numbered = l;
-    } in
-    record { usage = v; smaller = omega (arith, nodes_at_lem e s (child_in s q) w.rank (suc (w.rank q)) w.hi a.2 (omega arith)) })
-    w.usage w.stands (nodes_are w) w.few
+    let A = array_of w.usage s q w.rank w.lo w.hi k w.stands in
+    let many : nodes w.usage ≡ suc (nodes A.0) = ap nodes A.1 in
+    let lo = suc (w.rank q) in
+    record {
+      usage = record {
+        usage = A.0;
+        rank = w.rank;
+        lo = lo;
+        hi = w.hi;
+        stands = A.2;
+        few = omega (arith, many, w.few);
+        within = (stands_root A.0 s (child_in s q) w.rank lo w.hi A.2).inside;
+        numbered = l;
+      };
+      smaller = omega (arith, many, w.few, nodes_are w, nodes_at_lem A.0 s (child_in s q) w.rank lo w.hi A.2 (omega (arith, many, w.few)));
+    }
 
 module _ {s : List ℕ} {q c : ℕ} (k : command_in s q ≡ 4) (w : UsageAt s q) (z : (c ≡ child_in s q) × (c < 65536)) where
   pub element_usage : UsageAt s c
@@ -68,25 +68,20 @@ pub record Linked (s : List ℕ) (q e : ℕ) : Type 0 where
   pub along : (i : ℕ) → Along s e i → Along s (child_in s q) i
 
 pub first_linked : {s : List ℕ} {q e : ℕ} → command_in s q ≡ 3 → UsageAt s q → (e ≡ child_in s q) × (e < 65536) → Linked s q e
-unfolding Stands
 first_linked {s} {q} {e} k w x =
-    on_map (λ v. nodes_at s q ≡ nodes v → nodes v ≤ node_limit → Linked s q e) s q w.rank w.lo w.hi k
-    (λ z es a n few. record {
-      left = es;
+    let M = map_of w.usage s q w.rank w.lo w.hi k w.stands in
+    let many : nodes w.usage ≡ suc (nodes_in M.0) = ap nodes M.1 in
+    record {
+      left = M.0;
       rank = w.rank;
       lo = suc (w.rank q);
       hi = w.hi;
-      row = subst (λ (y : ℕ). Row es s y 0 w.rank (suc (w.rank q)) w.hi) (sym x.0) a.2;
-      fewer = omega arith;
-      few = omega arith;
+      row = subst (λ (y : ℕ). Row M.0 s y 0 w.rank (suc (w.rank q)) w.hi) (sym x.0) M.3;
+      fewer = omega (arith, many, nodes_are w);
+      few = omega (arith, many, w.few);
       numbered = x.1;
       along = λ i h. subst (λ (y : ℕ). Along s y i) x.0 h;
-    })
-    w.usage w.stands (nodes_are w) w.few
-
-count_nodes : (es : Entries) → count es ≤ nodes_in es
-count_nodes none = omega arith
-count_nodes (entry o u es) = omega (arith, some_node u, count_nodes es)
+    }
 
 module _ {s : List ℕ} {q e : ℕ} (L : Linked s q e) (ne : e ≡ 0 → ⊥) where
   H : Head L.left s e 0 L.rank L.lo L.hi

@@ -2,8 +2,7 @@
 -- Assumes nothing.
 use Rattle.std.proofs.Common.{◌≡◌, ℕ, ◌+◌, ◌*◌, ◌<◌, Bool, true, false, List, length, get_or, set, sym, refl, ap, ◌∙◌, inl, inr, arith, get_or-set_other, get_or-set_same, length-set}
 use native.Mathlib.Decide.{ℕ_discrete}
-use Rattle.records.specs.Records.{Marked}
-use Rattle.support_memory.specs.Memory.{tag_of, answer_of, Keeps, Remembers}
+use Rattle.support_memory.specs.Memory.{tag_of, answer_of, Keeps}
 use Rattle.support_memory.specs.declared.Answer.{Answer}
 
 -- A tag is of one number and one answer
@@ -17,9 +16,6 @@ one_tag t ty false false e = (omega arith, refl)
 -- The list
 
 module _ {d : List Answer} {ty at q : ℕ} where
-  pub keeps_nothing : {b : Bool} → Keeps d d ty at q b
-  keeps_nothing = record { each = λ t o i c l h. inl h }
-
   pub keeps_one : {b : Bool} {k v j : ℕ} → ty < 1024 → k ≡ q * 1024 + ty → v ≡ tag_of k b → j < length d → Keeps d (set d j (record { tag = v; past = at })) ty at q b
   keeps_one {b} {k} {v} {j} few ek ev l =
       let new : Answer = record { tag = v; past = at } in
@@ -38,8 +34,3 @@ module _ {d : List Answer} {ty at q : ℕ} where
                   inl (h.0, omega (arith, h.1, length-set d j new), sym (get_or-set_other d j h.0 new old apart) ∙ h.2)
             ];
       }
-
--- Remembering
-
-pub remembers : {ty at : ℕ} {s s' : List ℕ} {q : ℕ} {d d' : List Answer} {b : Bool} {t : ℕ} → t ≡ tag_of ty b → Marked s s' q t at → Keeps d d' ty at q b → Remembers ty at s s' q d d' b
-remembers e m k = record { node = rw e at m; list = k }

@@ -1,6 +1,6 @@
 -- A usage is read from its root on, so its record says its kind and its size.
 -- Assumes nothing.
-use Rattle.std.proofs.Common.{◌≡◌, ℕ, ◌≤◌, Bool, true, false, List, sym, ap, ◌∙◌, arith}
+use Rattle.std.proofs.Common.{◌≡◌, ℕ, ◌≤◌, Bool, true, false, List, ap, ◌∙◌, arith}
 use Rattle.definitions.specs.Usage.{Size, Usage, unused, leaf, map, array, Entries, size}
 use Rattle.definitions.specs.Command.{head_of}
 use Rattle.records.specs.Records.{command_in, size_in}
@@ -9,7 +9,7 @@ use Rattle.links.proofs.Stands.{stands_root}
 use Rattle.qptr.specs.Values.{command_of, kind_of}
 use Rattle.qptr.specs.declared.Kind.{Kind}
 use Rattle.qptr.specs.declared.Kind.TheVariants.{OffsetBase, DynOffsetBase}
-use Rattle.qptr.proofs.Nodes.{command_kind}
+use Rattle.qptr.proofs.Nodes.{kind_head}
 use Rattle.support_memory.specs.Nodes.{UsageAt}
 
 module _ (u : Usage) (s : List ℕ) (q : ℕ) (r : ℕ → ℕ) (lo hi : ℕ) (a : Stands u s q r lo hi) where
@@ -45,8 +45,8 @@ on_array P s q r lo hi k f =
 -- its record has a node's command, so its kind says which
 pub command_of_kind : (u : Usage) (s : List ℕ) (q : ℕ) (r : ℕ → ℕ) (lo hi : ℕ) {k : Kind} → Stands u s q r lo hi → k ≡ kind_of (command_in s q) → (v : Kind) → k ≡ v → command_in s q ≡ command_of v
 command_of_kind u s q r lo hi a x v e =
-    let node : command_in s q ≤ 4 = by_kind (λ u. command_in s q ≤ 4) s q r lo hi (λ z c a. omega arith) (λ z l t c a. omega arith) (λ z es c a. omega arith) (λ z n e c a. omega arith) u a in
-    sym (command_kind (command_in s q) node) ∙ ap command_of (sym x ∙ e)
+    let root = root_command u s q r lo hi a in
+    root ∙ kind_head _ u (x ∙ ap kind_of root) ∙ ap command_of e
 
 module _ {s : List ℕ} {q : ℕ} {k : Kind} (w : UsageAt s q) (x : k ≡ kind_of (command_in s q)) where
   pub command_is : (v : Kind) → k ≡ v → command_in s q ≡ command_of v
