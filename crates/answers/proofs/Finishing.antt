@@ -14,19 +14,17 @@ use Rattle.std.specs.Prelude.{Result as Returned, Ok, Err, OnOk, OnErr}
 use Rattle.definitions.specs.Calls.{written}
 use Rattle.place_states.specs.declared.Merged.{Merged}
 use Rattle.place_states.specs.declared.SizeRefusal.{SizeRefusal}
-use Rattle.place_states.specs.Refusals.{number_of as size_number}
 use Rattle.report.specs.Emitted.{SameBuffer}
 use Rattle.report.specs.declared.Report.{Report}
 use Rattle.report.proofs.Emitting.{kept_nothing, kept_both}
 use Rattle.links.proofs.Stands.{stands_root}
 use Rattle.transfer_out.specs.Writing.{Readable, Fitting, LengthIs, UsagePut}
-use Rattle.answers.specs.Answers.{number_of}
 use Rattle.answers.specs.Writing.{Gives, Comes, Stood, Reached, Reachable, Finished}
 use Rattle.answers.specs.declared.Refusal.{Refusal}
 use Rattle.answers.specs.declared.Refusal.TheVariants.{ShortOutput, ShortReport}
 use Rattle.answers.specs.declared.Written.{Written}
-use Rattle.answers.proofs.Lengths.{written_bytes}
-use Rattle.answers.proofs.Giving.{comes_kept, comes_10, comes_11, comes_written, gives_cleared}
+use Rattle.transfer_out.proofs.Lengths.{written_bytes}
+use Rattle.answers.proofs.Giving.{comes_10, comes_11, comes_written, gives_cleared}
 
 -- The usage that stands
 
@@ -69,16 +67,6 @@ first_put bs output room = sets-eq bs output 0 (omega arith) ∙ ap (λ k. bs ++
 
 length_of : {work : List ℕ} {m : Merged} {l : ℕ} → LengthIs work m.node l → {u : Usage} {w : List ℕ} {p : ℕ} {report : Report} (top : ℕ) → Stood u w p work m report → 1 + l ≡ length (top ∷ write_node u)
 length_of long {u} top S = omega (arith, long.of u S.rank S.lo S.hi S.stands)
-
--- a refusal by size is told as such
-pub finished_refused : {top : ℕ} {e : SizeRefusal} {work output : List ℕ} {report : Report} {e' : Refusal} → number_of e' ≡ size_number e
-    → Finished Comes top (Err e) work output report (Err e') output report
-finished_refused {top} {e} {work} {output} {report} {e'} same = record { of = go; kept = kept_nothing report }
-  where
-    go : (x : Result Usage) → Reached x work (Err e) report
-        → Comes (written output (length report.buffer.now) (under (λ u. top ∷ write_node u) x)) (Err e') output report.buffer.now
-    go (refused k) is = comes_kept output (length report.buffer.now) (same ∙ is)
-    go (done u w p) is = absurd is
 
 module _ {top : ℕ} {m : Merged} {work output : List ℕ} {report : Report} where
   finished_by : (r : Returned Written Refusal) {output' : List ℕ} {report' : Report} → SameBuffer report report'

@@ -1,4 +1,3 @@
-pub mod Lengths
 pub mod Giving
 pub mod Finishing
 pub mod Keeping
