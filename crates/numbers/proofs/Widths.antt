@@ -27,17 +27,20 @@ module _ (column : Command → ℕ) (past : Width (column no_command)) where
   row_width (r ∷ rs) zero h = record { even = h.0; small = h.1 }
   row_width (r ∷ rs) (suc c) h = row_width rs c h.2
 
-none : Width 0
-none = record { even = refl; small = omega arith }
+pub no_bytes : Width 0
+no_bytes = record { even = refl; small = omega arith }
+
+pub four_bytes : Width 4
+four_bytes = record { even = refl; small = omega arith }
 
 pub argument_width_lem : (c : ℕ) → Width (argument_width c)
 unfolding command_at
-argument_width_lem c = row_width (λ r. r.argument) none commands c (omega arith)
+argument_width_lem c = row_width (λ r. r.argument) no_bytes commands c (omega arith)
 
 -- behind the flag
 pub size_width_lem : (c : ℕ) → Width (size_width c - 1)
 unfolding command_at
-size_width_lem c = row_width (λ r. r.size - 1) none commands c (omega arith)
+size_width_lem c = row_width (λ r. r.size - 1) no_bytes commands c (omega arith)
 
 -- written, a size and a node's own part are as long as their widths say
 
