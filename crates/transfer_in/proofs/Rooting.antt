@@ -5,23 +5,21 @@ use Prim.Native.Nat.{ℕ, suc, ◌+◌, ◌*◌, ◌-◌, ◌<◌, ◌≤◌}
 use mathlib.Core.Path.{◌≡◌, refl, ap, sym, ◌∙◌, subst}
 use mathlib.Core.List.{List}
 use native.Mathlib.Omega.{arith}
+use native.Mathlib.Numerals.{add-one}
 use lib.ListN.{length}
 use Rattle.definitions.specs.Usage.{Size, Usage, unused, leaf, map, array, Entries, none, nodes, nodes_in, count}
 use Rattle.definitions.specs.Command.{head_of}
 use Rattle.definitions.proofs.Nodes.{some_node}
 use Rattle.qptr.specs.declared.Kind.{Kind}
 use Rattle.qptr.specs.declared.Kind.TheVariants.{OffsetBase, DynOffsetBase}
-use Rattle.qptr.specs.Values.{command_of, kind_of}
-use Rattle.qptr.proofs.Nodes.{kind_head}
+use Rattle.qptr.specs.Values.{kind_of}
+use Rattle.qptr.proofs.Nodes.{map_command, array_command}
 use Rattle.records.specs.Records.{command_in, count_in, argument_in, Cell, cell, with_next, with_child, with_count, with_argument, full, Set}
 use Rattle.records.proofs.Writing.{set_again}
 use Rattle.transfer_in.specs.Loading.{Bare, first_of, Linked, EntriesLinked, Apart, EntriesOf, EntriesTied, Ripe, RipeAt, Tied}
 use Rattle.qptr.proofs.Usages.{is_map, AnArray, is_array}
 use Rattle.transfer_in.proofs.Linked.{linked_with, entries_move, count_is}
 use Rattle.transfer_in.proofs.Tying.{no_entry, first_some}
-
-suc_is : (q : ℕ) → suc q ≡ q + 1
-suc_is q = omega arith
 
 -- what a map's root says
 record MapAt (s : List ℕ) (q k : ℕ) (u : Usage) (o : ℕ) : Type 0 where
@@ -36,20 +34,17 @@ module _ (s : List ℕ) (q : ℕ) {c : Kind} (kind : c ≡ kind_of (command_in s
   kind_of_root : (u : Usage) (o : ℕ) → Bare u s q o → c ≡ kind_of (head_of u).command
   kind_of_root u o b = kind ∙ ap (λ (x : Cell). kind_of x.command) b
 
-  command_of_root : {other : Kind} → c ≡ other → (u : Usage) (o : ℕ) → Bare u s q o → (head_of u).command ≡ command_of other
-  command_of_root e u o b = kind_head c u (kind_of_root u o b) ∙ ap command_of e
-
   module _ {k : ℕ} (holds_entries : c ≡ OffsetBase) (argument : k ≡ argument_in s q) where
     map_at : (u : Usage) (o : ℕ) → Ripe u s q o → MapAt s q k u o
     map_at u o R =
-        let M = is_map u (command_of_root holds_entries u o R.root) in
+        let M = is_map u (map_command (kind_of_root u o R.root) holds_entries) in
         let R' : Ripe (map M.size M.entries) s q o = subst (λ (x : Usage). Ripe x s q o) M.same R in
         record {
           size = M.size;
           entries = M.entries;
           same = M.same;
           root = R'.root;
-          below = subst (Apart M.entries s) (suc_is q) R'.below;
+          below = rw add-one R'.below;
           many = sym (argument ∙ ap (λ (x : Cell). x.argument) R'.root);
         }
 
@@ -93,12 +88,12 @@ module _ (s : List ℕ) (q : ℕ) {c : Kind} (kind : c ≡ kind_of (command_in s
       map_linked u o M =
           let es : Entries = M.entries in
           let S = set_root in
-          let first : q + 1 ≡ first_of es (suc q) = sym (first_some es (suc q) (omega (arith, M.many)) ∙ suc_is q) in
+          let first : q + 1 ≡ first_of es (suc q) = rw (first_some es (suc q) (omega (arith, M.many))) (add-one q) in
           let total : e - q ≡ suc (nodes_in es) = omega (arith, T.behind es M.below M.many) in
           let root : with_next 0 (cell s₄ q) ≡ full 3 0 (q + 1) (e - q) M.size 0 o = ap (with_next 0) (root_is u o M) in
           let below : EntriesLinked es s₄ (q + 1) = entries_move es s₁ s₄ (q + 1) (λ j a b. S.others j (omega arith)) (T.linked es M.below M.many) in
           subst (λ (x : Usage). Linked x s₄ q o) (sym M.same)
-          (root ∙ cc, subst (EntriesLinked es s₄) (sym (suc_is q)) below)
+          (root ∙ cc, rw add-one at below)
 
       pub map_tied : Tied s q s₄
       map_tied = record {
@@ -113,13 +108,13 @@ module _ (s : List ℕ) (q : ℕ) {c : Kind} (kind : c ≡ kind_of (command_in s
   module _ (holds_element : c ≡ DynOffsetBase) where
     array_at : (u : Usage) (o : ℕ) → Ripe u s q o → (A : AnArray u) × Ripe (array A.size A.stride A.element) s q o
     array_at u o R =
-        let A = is_array u (command_of_root holds_element u o R.root) in
+        let A = is_array u (array_command (kind_of_root u o R.root) holds_element) in
         (A, subst (λ (x : Usage). Ripe x s q o) A.same R)
 
     element_nodes : (u : Usage) (o : ℕ) → Ripe u s q o → (1 ≤ count_in s (q + 1)) × (nodes u ≡ 1 + count_in s (q + 1))
     element_nodes u o R =
         let A = array_at u o R in
-        let e : count_in s (q + 1) ≡ nodes A.0.element = rw (← suc_is q) (count_is A.0.element s (suc q) 0 A.1.below) in
+        let e : count_in s (q + 1) ≡ nodes A.0.element = rw add-one (count_is A.0.element s (suc q) 0 A.1.below) in
         (omega (arith, some_node A.0.element), omega (arith, ap nodes A.0.same))
 
     pub element_inside : RipeAt s q → (q + 1) * 32 + 32 ≤ length s
@@ -143,7 +138,7 @@ module _ (s : List ℕ) (q : ℕ) {c : Kind} (kind : c ≡ kind_of (command_in s
                 let total : 1 + n ≡ suc (nodes x) = omega (arith, (element_nodes u o R).1, ap nodes X.0.same) in
                 let root : with_next 0 (cell s₂ q) ≡ full 4 0 (q + 1) (1 + n) X.0.size X.0.stride o =
                 ap (with_next 0) (S.here ∙ ap (λ (y : Cell). with_count (1 + n) (with_child (q + 1) y)) X.1.root) in
-                let ahead : q + 1 ≡ suc q = sym (suc_is q) in
+                let ahead : q + 1 ≡ suc q = add-one q in
                 subst (λ (y : Usage). Linked y s₂ q o) (sym X.0.same)
                 (root ∙ cc, linked_with x s s₂ (suc q) 0 (ap (with_next 0) (S.others (suc q) (omega arith))) (λ j a b. S.others j (omega arith)) X.1.below);
             next = λ u o R. ap (λ (x : Cell). x.next) (S.here ∙ ap (λ (y : Cell). with_count (1 + n) (with_child (q + 1) y)) R.root);

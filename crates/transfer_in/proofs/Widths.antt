@@ -18,7 +18,7 @@ use Rattle.qptr.specs.Values.{kind_of}
 use Rattle.qptr.proofs.Nodes.{array_command}
 use Rattle.numbers.specs.Words.{Width}
 use Rattle.numbers.specs.Widths.{own_width}
-use Rattle.numbers.proofs.Widths.{head_length}
+use Rattle.numbers.proofs.Widths.{no_bytes, four_bytes, head_length}
 use Rattle.transfer_in.specs.Nodes.{front_behind, own}
 
 pub front_array : (k : Kind) (c : ℕ) → k ≡ kind_of c → k ≡ DynOffsetBase → 0 ≡ front_behind c
@@ -34,4 +34,4 @@ own_length front o u = omega (arith, length-append (bytes front o) (write_head (
 
 pub front_width : (c : ℕ) → Width (front_behind c)
 unfolding front_behind
-front_width c = either Width (eqb c 4) (record { even = refl; small = omega arith }) (record { even = refl; small = omega arith })
+front_width c = either Width (eqb c 4) no_bytes four_bytes

@@ -4,13 +4,14 @@ use mathlib.Core.Path.{refl, ◌∙◌}
 use native.Mathlib.Omega.{arith}
 use lib.ListN.{get_or}
 use Rattle.transfer_in.proofs.Loading.{this_turn, same_nodes, loads_none, loads_more, loads_done, begins_inside}
+use Rattle.numbers.proofs.Widths.{no_bytes}
 use Rattle.transfer_in.proofs.Widths.{front_width}
 use Rattle.transfer_in.proofs.load_nodes.Goals as goal
 
 pub loop-i-init : goal.loop-i-init
 loop-i-init c =
     let small : (k : ℕ) → get_or c.args.s.now k 0 < 256 = λ k. (c.type_inv.s k).fits in
-    (loads_none small, (λ j lt. refl), record { even = refl; small = omega arith }, omega arith, omega arith, begins_inside small c.requires, refl)
+    (loads_none small, (λ j lt. refl), no_bytes, omega arith, omega arith, begins_inside small c.requires, refl)
 
 pub load_own-p-requires : goal.load_own-p-requires
 load_own-p-requires c =
