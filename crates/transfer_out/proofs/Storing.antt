@@ -19,7 +19,7 @@ use Rattle.links.specs.Standing.{Row}
 use Rattle.transfer_out.specs.Nodes.{Put, Onto}
 use Rattle.transfer_out.specs.declared.Output.{Output}
 use Rattle.transfer_out.specs.Writing.{Readable, Fitting, OwnFitting, OwnPut, UsagePut}
-use Rattle.numbers.proofs.Widths.{head_length}
+use Rattle.numbers.proofs.Widths.{four_bytes, head_length}
 use Rattle.transfer_out.proofs.Stores.{put_more, onto_as, onto_then, onto_more}
 use Rattle.transfer_out.proofs.Writing.{one_writes, Element, element, element_readable, below, Writing, writing_none, writing_done, writing_more, entry_readable, written_done, entry_fits}
 
@@ -79,7 +79,7 @@ module _ {s : List ℕ} {q i : ℕ} (o₀ o : Output) (W : Writing (PutFrom o₀
   entry_room = let D = written_done s q i o₀.at (length o₀.buffer.now) W ne in omega (arith, D.is.behind, D.long, entry_fits s q i o₀.at (length o₀.buffer.now) W ne)
 
   pub offset_fits : Width 4 × (o.at + 4 ≤ length o.buffer.now)
-  offset_fits = (record { even = refl; small = omega arith }, omega (arith, entry_room))
+  offset_fits = (four_bytes, omega (arith, entry_room))
 
   module _ {o₁ : Output} (n : ℕ) (A : Onto (Put (bytes 4 n)) o o₁) where
     pub entry_fitting : Fitting s i o₁.buffer.now o₁.at
