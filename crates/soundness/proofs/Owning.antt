@@ -24,25 +24,23 @@ use Rattle.soundness.specs.Own.{following, fills, own}
 use Rattle.soundness.specs.Standing.{Standing, Row, Counted, Chained, Owned}
 use Rattle.soundness.proofs.Rows.{counted_nodes}
 
+-- a record's kind tells the command of whichever usage stands there
+command_of_root : (s : List ℕ) (q : ℕ) (k : Kind) → k ≡ kind_of (command_in s q) → {other : Kind} → k ≡ other → (u : Usage) (o : ℕ) → At u s q o → (head_of u).command ≡ command_of other
+command_of_root s q k e same u o r = kind_head k u (e ∙ ap kind_of (root_of u s q o r).1.command) ∙ ap command_of same
+
 -- what a map and an array hold stands from the next record on
 
-command_at_lem : (s : List ℕ) (q : ℕ) (k : Kind) → k ≡ kind_of (command_in s q) → (u : Usage) (o : ℕ) → At u s q o → (head_of u).command ≡ command_of k
-command_at_lem s q k e u o r = kind_head k u (e ∙ ap kind_of (root_of u s q o r).1.command)
-
 module _ (s : List ℕ) (q : ℕ) (k : Kind) (kind_is : k ≡ kind_of (command_in s q)) (S : Standing s q) where
-  command_of_usage : {other : Kind} → k ≡ other → (head_of S.usage).command ≡ command_of other
-  command_of_usage e = command_at_lem s q k kind_is S.usage S.offset S.stands ∙ ap command_of e
-
   pub map_row : (end : ℕ) → k ≡ OffsetBase → Counted s q end → Row s (q + 1) end
   unfolding At
   map_row end e C =
-      let m = is_map S.usage (command_of_usage e) in
+      let m = is_map S.usage (command_of_root s q k kind_is e S.usage S.offset S.stands) in
       let r : At (map m.size m.entries) s q S.offset = rw m.same at S.stands in
       record { entries = m.entries; stand = rw add-one r.1; upto = omega (arith, counted_nodes (map m.size m.entries) S.offset r C); inside = C.inside; few = C.few }
 
   pub array_room : k ≡ DynOffsetBase → (q + 1) * 32 + 32 ≤ length s
   array_room e =
-      let m = is_array S.usage (command_of_usage e) in
+      let m = is_array S.usage (command_of_root s q k kind_is e S.usage S.offset S.stands) in
       omega (arith, some_node m.element, ap nodes m.same)
 
 -- the own rules, once the size is tested
@@ -81,15 +79,12 @@ module _ (z : Size) (h : past32 z ≡ false) (f : (fixed 1 ≤ˢ z) ≡ true) wh
 -- the answers, of whichever usage stands there
 
 module _ (s : List ℕ) (q : ℕ) (k : Kind) (y : Size) (kind_is : k ≡ kind_of (command_in s q)) (size_is : y ≡ size_in s q) where
-  command_of_root : {other : Kind} → k ≡ other → (u : Usage) (o : ℕ) → At u s q o → (head_of u).command ≡ command_of other
-  command_of_root e u o r = command_at_lem s q k kind_is u o r ∙ ap command_of e
-
   size_at_lem : (u : Usage) (o : ℕ) → At u s q o → y ≡ size u
   size_at_lem u o r = size_is ∙ (root_of u s q o r).1.size
 
   module _ (small : past32 y ≡ false) where
     pub own_unused : k ≡ Unused → Owned s q true
-    own_unused e = record { of = λ u o r. sym (unused_keeps u (command_of_root e u o r) (rw (size_at_lem u o r) at small)) }
+    own_unused e = record { of = λ u o r. sym (unused_keeps u (command_of_root s q k kind_is e u o r) (rw (size_at_lem u o r) at small)) }
 
     module _ (some : Bool) (some_is : some ≡ (fixed 1 ≤ˢ y)) where
       pub own_empty : (k ≡ Unused → ⊥) → some ≡ false → Owned s q some
@@ -103,8 +98,8 @@ module _ (s : List ℕ) (q : ℕ) (k : Kind) (y : Size) (kind_is : k ≡ kind_of
       own_leaf typed = record {
         of = λ u o r.
             let is : (1 ≤ (head_of u).command) × ((head_of u).command ≤ 2) = elim typed [
-              | inl e ↦ let h = command_of_root e u o r in (omega arith, omega arith)
-              | inr e ↦ let h = command_of_root e u o r in (omega arith, omega arith)
+              | inl e ↦ let h = command_of_root s q k kind_is e u o r in (omega arith, omega arith)
+              | inr e ↦ let h = command_of_root s q k kind_is e u o r in (omega arith, omega arith)
             ] in
             some_is ∙ rw (size_at_lem u o r) (sym (leaf_keeps u is.0 is.1 (rw (size_at_lem u o r) at small)));
       }
@@ -113,7 +108,7 @@ module _ (s : List ℕ) (q : ℕ) (k : Kind) (y : Size) (kind_is : k ≡ kind_of
       unfolding At
       own_map end b e f C K = record {
         of = λ u o r.
-            let m = is_map u (command_of_root e u o r) in
+            let m = is_map u (command_of_root s q k kind_is e u o r) in
             let z : Size = m.size in
             let es : Entries = m.entries in
             let r' : At (map z es) s q o = rw m.same at r in
@@ -126,7 +121,7 @@ module _ (s : List ℕ) (q : ℕ) (k : Kind) (y : Size) (kind_is : k ≡ kind_of
       unfolding At
       own_array n z b e f stride_is element-is h = record {
         of = λ u o r.
-            let m = is_array u (command_of_root e u o r) in
+            let m = is_array u (command_of_root s q k kind_is e u o r) in
             let y' : Size = m.size in
             let n' : ℕ = m.stride in
             let v : Usage = m.element in
