@@ -8,7 +8,6 @@ use Rattle.links.specs.Standing.{Stands}
 use Rattle.links.proofs.Stands.{stands_root}
 use Rattle.qptr.specs.Values.{command_of, kind_of}
 use Rattle.qptr.specs.declared.Kind.{Kind}
-use Rattle.qptr.specs.declared.Kind.TheVariants.{OffsetBase, DynOffsetBase}
 use Rattle.qptr.proofs.Nodes.{kind_head}
 use Rattle.support_memory.specs.Nodes.{UsageAt}
 
@@ -51,9 +50,3 @@ command_of_kind u s q r lo hi a x v e =
 module _ {s : List ℕ} {q : ℕ} {k : Kind} (w : UsageAt s q) (x : k ≡ kind_of (command_in s q)) where
   pub command_is : (v : Kind) → k ≡ v → command_in s q ≡ command_of v
   command_is = command_of_kind w.usage s q w.rank w.lo w.hi w.stands x
-
-  pub is_map : k ≡ OffsetBase → command_in s q ≡ 3
-  is_map = command_is OffsetBase
-
-  pub is_array : k ≡ DynOffsetBase → command_in s q ≡ 4
-  is_array = command_is DynOffsetBase
