@@ -75,7 +75,7 @@ entries_of_lem (suc n) = let more = entries_of_lem n in (entry 0 UNUSED more.0, 
 pub unused_stands : Stands Constants.UNUSED UNUSED
 unused_stands = refl
 
--- kinds and commands, both ways
+-- a kind and its command
 
 pub command_kind : (c : ℕ) → c ≤ 0x04 → command_of (kind_of c) ≡ c
 command_kind zero h = refl
