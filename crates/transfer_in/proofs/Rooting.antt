@@ -16,7 +16,7 @@ use Rattle.qptr.specs.Values.{kind_of}
 use Rattle.qptr.proofs.Nodes.{map_command, array_command}
 use Rattle.records.specs.Records.{command_in, count_in, argument_in, Cell, cell, with_next, with_child, with_count, with_argument, full, Set}
 use Rattle.records.proofs.Writing.{set_again}
-use Rattle.transfer_in.specs.Loading.{Bare, first_of, Linked, EntriesLinked, Apart, EntriesOf, EntriesTied, Ripe, RipeAt, Tied}
+use Rattle.transfer_in.specs.Loading.{Bare, first_of, Linked, EntriesLinked, Apart, EntriesTied, Ripe, RipeAt, Tied}
 use Rattle.qptr.proofs.Usages.{is_map, AnArray, is_array}
 use Rattle.transfer_in.proofs.Linked.{linked_with, entries_move, count_is}
 use Rattle.transfer_in.proofs.Tying.{no_entry, first_some}
@@ -46,18 +46,6 @@ module _ (s : List ℕ) (q : ℕ) {c : Kind} (kind : c ≡ kind_of (command_in s
           root = R'.root;
           below = rw add-one R'.below;
           many = sym (argument ∙ ap (λ (x : Cell). x.argument) R'.root);
-        }
-
-    pub entries_of_lem : RipeAt s q → (k ≡ 0 → ⊥) → EntriesOf s (q + 1) k
-    entries_of_lem R some =
-        let M = map_at R.usage R.offset R.ripe in
-        record {
-          entries = M.entries;
-          stand = M.below;
-          many = M.many;
-          some = omega arith;
-          inside = omega (arith, R.inside, ap nodes M.same);
-          few = omega (arith, R.few, ap nodes M.same);
         }
 
     pub none_tied : k ≡ 0 → Tied s q s
