@@ -49,9 +49,6 @@ module _ (s : List ℕ) (q p k : ℕ) (C : Counting s q p k) (ne : p ≡ 0 → �
   pub entry_inside : p * 32 + 32 ≤ length s
   entry_inside = (stands_root first.u s p L.rank here.m first.m first.stands).inside
 
-  pub count_few : k + 1 < 65536
-  count_few = omega (arith, here.many, L.small, ap count first.is)
-
   pub count_more : (p' : ℕ) → p' ≡ next_in s p → Counting s q p' (k + 1)
   count_more p' e = record {
     from = L;
