@@ -6,7 +6,7 @@ use mathlib.Core.List.{List, ◌∷◌, ◌++◌}
 use native.Mathlib.Nat.{zero-add}
 use native.Mathlib.Omega.{arith}
 use lib.ListN.{length, set, take, drop, replicate, length-set}
-use lib.Seq.{sets, length-sets, sets-eq}
+use lib.Seq.{sets, sets-eq}
 use Rattle.definitions.specs.Usage.{Usage}
 use Rattle.definitions.specs.Stream.{write_node}
 use Rattle.definitions.specs.Place.{Result, refused, done, under}
@@ -52,12 +52,6 @@ module _ {work : List ℕ} {q l : ℕ} (P : Readable work q) (long : LengthIs wo
 
   pub fitting : (top : ℕ) (output : List ℕ) → 1 + l ≤ length output → Fitting work q (set output 0 top) 1
   fitting top output room = record { standing = P; room = omega (arith, is_length, length-set output 0 top) }
-
--- it is written into the output, which stays as long as it was
-module _ {work : List ℕ} {q : ℕ} (P : Readable work q) where
-  pub length_put : (top : ℕ) (output : List ℕ) {output' : List ℕ} {e : ℕ} → UsagePut work q (set output 0 top) 1 output' e → length output' ≡ length output
-  length_put top output put =
-      ap length (put.of P.usage P.rank P.lo P.hi P.stands).stored ∙ length-sets (set output 0 top) 1 (write_node P.usage) ∙ length-set output 0 top
 
 -- what comes to its start stands before the rest
 first_put : (bs output : List ℕ) → length bs ≤ length output → sets output 0 bs ≡ bs ++ drop (length bs) output
