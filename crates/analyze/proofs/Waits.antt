@@ -1,14 +1,14 @@
 -- The pair lies inside of the ranks of all, and what comes after it waits where a call on the pair leaves it.
 -- Assumes nothing.
-use Rattle.std.proofs.Common.{◌≡◌, ℕ, ◌+◌, ◌≤◌, List, sym, ap, ◌∙◌, arith}
-use Rattle.definitions.specs.Usage.{Entries, none, entry, count}
-use Rattle.links.specs.Rows.{onto, chain}
+use Rattle.std.proofs.Common.{◌≡◌, ℕ, ◌≤◌, List, sym, ap, ◌∙◌, arith}
+use Rattle.definitions.specs.Usage.{Entries, none, count}
+use Rattle.links.specs.Rows.{chain}
 use Rattle.links.proofs.Stands.{row_le}
-use Rattle.links.proofs.Chains.{chain_zero, chain_many}
+use Rattle.links.proofs.Chains.{chain_zero, chain_many, down_chain}
+use Rattle.links.proofs.Entries.{few_entries, count_onto}
 use Rattle.place_states.specs.Beyond.{Beyond, entries, element, joins, outer}
 use Rattle.place_states.specs.States.{Outside}
 use Rattle.place_states.specs.declared.State.{State}
-use Rattle.place_states.proofs.Falling.{few_entries, down_chain}
 
 pub outside_inside : (k : ℕ) (y : Beyond) (s : List ℕ) (a : ℕ) (st : State) (r : ℕ → ℕ) (lo c e hi : ℕ) → Outside k y s a st r lo c e hi → (lo ≤ c) × (e ≤ hi)
 unfolding Outside
@@ -21,11 +21,6 @@ abbrev waiting : Beyond → Entries
 waiting (entries es) = es
 waiting (element z n) = none
 waiting (joins z low mid high d) = mid
-
-count_onto : (es fs : Entries) → count (onto es fs) ≡ count es + count fs
-unfolding onto
-count_onto none fs = omega arith
-count_onto (entry o u es) fs = omega (arith, count_onto es (entry o u fs))
 
 pub outside_chain : (k : ℕ) (y : Beyond) (s : List ℕ) (a : ℕ) (st : State) (r : ℕ → ℕ) (lo c e hi : ℕ) → outer y ≤ 65536 → Outside k y s a st r lo c e hi → chain 65536 s st.rest ≡ count (waiting y)
 unfolding Outside

@@ -1,4 +1,4 @@
--- What is linked is counted: the entries have ranks one above the other, so there are no more of them than ranks.
+-- What is linked is counted, where no more than k entries are: so behind the first of them one fewer is linked.
 -- Assumes nothing.
 use Prim.Native.Nat.{ℕ, zero, suc, ◌+◌, ◌≤◌}
 use mathlib.Core.Path.{◌≡◌, refl, ap}
@@ -8,7 +8,8 @@ use Rattle.definitions.specs.Usage.{Entries, none, entry, count}
 use Rattle.records.specs.Records.{next_in}
 use Rattle.links.specs.Standing.{Stands, Row}
 use Rattle.links.specs.Rows.{Down, chain}
-use Rattle.links.proofs.Stands.{stands_root, stands_le, down_le}
+use Rattle.links.proofs.Stands.{stands_root}
+use Rattle.links.proofs.Rows.{head, top}
 
 pub chain_many : (k : ℕ) (es : Entries) (s : List ℕ) (q : ℕ) (r : ℕ → ℕ) (lo hi : ℕ) → count es ≤ k → Row es s q 0 r lo hi → chain k s q ≡ count es
 unfolding Stands chain
@@ -19,24 +20,30 @@ chain_many (suc k) none s (suc q) r lo hi le h = absurd (omega (arith, h.0))
 chain_many (suc k) (entry o u es) s zero r lo hi le h = absurd (omega (arith, (stands_root u s 0 r lo h.0 h.2).some))
 chain_many (suc k) (entry o u es) s (suc q) r lo hi le h = ap suc (chain_many k es s (next_in s (suc q)) r h.0 hi (omega arith) h.3)
 
-row_many : (es : Entries) (s : List ℕ) (q e : ℕ) (r : ℕ → ℕ) (lo hi : ℕ) → Row es s q e r lo hi → lo + count es ≤ hi
-unfolding Stands
-row_many none s q e r lo hi h = omega (arith, h.1)
-row_many (entry o u es) s q e r lo hi h = omega (arith, stands_le u s q r lo h.0 h.2, row_many es s (next_in s q) e r h.0 hi h.3)
-
-pub chain_row : (k : ℕ) (es : Entries) (s : List ℕ) (q : ℕ) (r : ℕ → ℕ) (lo hi : ℕ) → hi ≤ lo + k → Row es s q 0 r lo hi → chain k s q ≡ count es
-chain_row k es s q r lo hi le h = chain_many k es s q r lo hi (omega (arith, row_many es s q 0 r lo hi h)) h
-
-pub chain_down : (k : ℕ) (es : Entries) (s : List ℕ) (q : ℕ) (r : ℕ → ℕ) (lo hi : ℕ) → hi ≤ lo + k → Down es s q r lo hi → chain k s q ≡ count es
+pub down_chain : (k : ℕ) (es : Entries) (s : List ℕ) (q : ℕ) (r : ℕ → ℕ) (lo hi : ℕ) → count es ≤ k → Down es s q r lo hi → chain k s q ≡ count es
 unfolding Down chain
-chain_down zero none s q r lo hi le h = refl
-chain_down zero (entry o u es) s q r lo hi le h = absurd (omega (arith, stands_le u s q r h.0 hi h.2, down_le es s (next_in s q) r lo h.0 h.3))
-chain_down (suc k) none s zero r lo hi le h = refl
-chain_down (suc k) none s (suc q) r lo hi le h = absurd (omega (arith, h.0))
-chain_down (suc k) (entry o u es) s zero r lo hi le h = absurd (omega (arith, (stands_root u s 0 r h.0 hi h.2).some))
-chain_down (suc k) (entry o u es) s (suc q) r lo hi le h = ap suc (chain_down k es s (next_in s (suc q)) r lo h.0 (omega (arith, stands_le u s (suc q) r h.0 hi h.2)) h.3)
+down_chain zero none s q r lo hi le h = refl
+down_chain zero (entry o u es) s q r lo hi le h = absurd (omega arith)
+down_chain (suc k) none s zero r lo hi le h = refl
+down_chain (suc k) none s (suc q) r lo hi le h = absurd (omega (arith, h.0))
+down_chain (suc k) (entry o u es) s zero r lo hi le h = absurd (omega (arith, (stands_root u s 0 r h.0 hi h.2).some))
+down_chain (suc k) (entry o u es) s (suc q) r lo hi le h = ap suc (down_chain k es s (next_in s (suc q)) r lo h.0 (omega arith) h.3)
 
 pub chain_zero : (k : ℕ) (s : List ℕ) → chain k s 0 ≡ 0
 unfolding chain
 chain_zero zero s = refl
 chain_zero (suc k) s = refl
+
+pub row_falls : (es : Entries) (s : List ℕ) (q : ℕ) (r : ℕ → ℕ) (lo hi : ℕ) → count es ≤ 65536 → (q ≡ 0 → ⊥) → Row es s q 0 r lo hi
+    → chain 65536 s (next_in s q) + 1 ≤ chain 65536 s q
+row_falls es s q r lo hi few some h =
+    let v = head es s q 0 r lo hi some h in
+    let n : count es ≡ suc (count v.rest) = ap count v.is in
+    omega (arith, chain_many 65536 es s q r lo hi few h, chain_many 65536 v.rest s (next_in s q) r v.m hi (omega arith) v.row)
+
+pub down_falls : (es : Entries) (s : List ℕ) (q : ℕ) (r : ℕ → ℕ) (lo hi : ℕ) → count es ≤ 65536 → (q ≡ 0 → ⊥) → Down es s q r lo hi
+    → chain 65536 s (next_in s q) + 1 ≤ chain 65536 s q
+down_falls es s q r lo hi few some h =
+    let v = top es s q r lo hi some h in
+    let n : count es ≡ suc (count v.rest) = ap count v.is in
+    omega (arith, down_chain 65536 es s q r lo hi few h, down_chain 65536 v.rest s (next_in s q) r lo v.m (omega arith) v.down)

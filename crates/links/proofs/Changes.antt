@@ -13,16 +13,21 @@ use Rattle.records.specs.Records.{Cell, cell, command_in, child_in, size_in, arg
 use Rattle.links.specs.Standing.{Root, Stands, Row}
 use Rattle.links.proofs.Stands.{stands_root, finger_still, stands_still, row_still, row_low, stands_wide}
 
+-- a record that is written is the root that it says
+root_of : (s s' : List ℕ) (q : ℕ) (r : ℕ → ℕ) (lo hi : ℕ) (c : Cell) (k : ℕ) (z : Size) → length s' ≡ length s → Set s s' q c → c.command ≡ k → c.size ≡ z
+    → 1 ≤ q → q * 32 + 32 ≤ length s → lo ≤ r q → r q < hi → Root s' q r lo hi k z
+root_of s s' q r lo hi c k z len S ek ez some inside low high = record {
+  some = some;
+  inside = omega arith;
+  low = low;
+  high = high;
+  command = ap (λ (x : Cell). x.command) S.here ∙ ek;
+  size = ap (λ (x : Cell). x.size) S.here ∙ ez;
+}
+
 pub root_set : (s s' : List ℕ) (q : ℕ) (r : ℕ → ℕ) (lo hi : ℕ) (c : Cell) (k : ℕ) (z : Size) → length s' ≡ length s → Set s s' q c → c.command ≡ command_in s q → Root s q r lo hi k z
     → Root s' q r lo hi k c.size
-root_set s s' q r lo hi c k z len S ek R = record {
-  some = R.some;
-  inside = omega (arith, R.inside);
-  low = R.low;
-  high = R.high;
-  command = ap (λ (x : Cell). x.command) S.here ∙ ek ∙ R.command;
-  size = ap (λ (x : Cell). x.size) S.here;
-}
+root_set s s' q r lo hi c k z len S ek R = root_of s s' q r lo hi c k c.size len S (ek ∙ R.command) refl R.some R.inside R.low R.high
 
 -- the command, the child and the argument stay
 pub stands_set : (u : Usage) (s s' : List ℕ) (q : ℕ) (r : ℕ → ℕ) (lo hi : ℕ) (c : Cell) → length s' ≡ length s → Set s s' q c → c.command ≡ command_in s q → c.child ≡ child_in s q → c.argument ≡ argument_in s q
@@ -64,30 +69,14 @@ pub stands_type : (z : Size) (k : Bool) (t : ℕ) (k' : Bool) (t' : ℕ) (s s' :
     → Stands (leaf z k t) s q r lo hi → Stands (leaf z k' t') s' q r lo hi
 unfolding Stands
 stands_type z k t k' t' s s' q r lo hi c len ek S h =
-    let R = h.0 in (
-      record {
-        some = R.some;
-        inside = omega (arith, R.inside);
-        low = R.low;
-        high = R.high;
-        command = ap (λ (x : Cell). x.command) S.here ∙ ek;
-        size = ap (λ (x : Cell). x.size) S.here ∙ R.size;
-      },
-      ap (λ (x : Cell). x.argument) S.here,
-    )
+    let R = h.0 in
+    (root_of s s' q r lo hi (with_type c t' (cell s q)) (typed_command k') z len S ek R.size R.some R.inside R.low R.high, ap (λ (x : Cell). x.argument) S.here)
 
 -- the root x is copied over record l, whose rank is lower
 
 home : (s s' : List ℕ) (x l : ℕ) (r : ℕ → ℕ) (lo hi c : ℕ) (k : Cell) (q : ℕ) (z : Size) → length s' ≡ length s → Set s s' l k → k.command ≡ command_in s x → k.size ≡ size_in s x → 1 ≤ l → l * 32 + 32 ≤ length s → lo ≤ r l → r l < c
     → Root s x r c hi q z → Root s' l r lo hi q z
-home s s' x l r lo hi c k q z len S ek ez some ins ll lc R = record {
-  some = some;
-  inside = omega arith;
-  low = ll;
-  high = omega (arith, R.low, R.high);
-  command = ap (λ (y : Cell). y.command) S.here ∙ ek ∙ R.command;
-  size = ap (λ (y : Cell). y.size) S.here ∙ ez ∙ R.size;
-}
+home s s' x l r lo hi c k q z len S ek ez some ins ll lc R = root_of s s' l r lo hi k q z len S (ek ∙ R.command) (ez ∙ R.size) some ins ll (omega (arith, R.low, R.high))
 
 pub rehome : (u : Usage) (s s' : List ℕ) (x l : ℕ) (r : ℕ → ℕ) (lo hi c : ℕ) (k : Cell) → length s' ≡ length s → Set s s' l k → k.command ≡ command_in s x → k.child ≡ child_in s x → k.size ≡ size_in s x → k.argument ≡ argument_in s x
     → 1 ≤ l → l * 32 + 32 ≤ length s → lo ≤ r l → r l < c → Stands u s x r c hi → Stands u s' l r lo hi

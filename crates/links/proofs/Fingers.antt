@@ -1,6 +1,6 @@
 -- A finger parts the entries of its map: the walk from the first one to it has told those up to it, and those behind it follow.
 -- Assumes nothing.
-use Prim.Native.Nat.{ℕ, zero, suc, ◌+◌, ◌≤◌}
+use Prim.Native.Nat.{ℕ, zero, suc, ◌≤◌}
 use mathlib.Core.Path.{◌≡◌, refl, sym, ap, ◌∙◌, subst}
 use mathlib.Core.List.{List}
 use lib.ListN.{length}
@@ -10,13 +10,9 @@ use Rattle.records.specs.Records.{Cell, cell, next_in, child_in, argument_in, wi
 use Rattle.links.specs.Standing.{Root, walk, reached, Finger, Stands, Row}
 use Rattle.links.specs.Rows.{onto, link, Up}
 use Rattle.links.proofs.Stands.{stands_root, link_suc, link_zero, reached_still, row_still}
+use Rattle.links.proofs.Entries.{count_onto}
 use Rattle.links.proofs.Rows.{up_none, up_one, unzip}
 use Rattle.links.proofs.Changes.{root_set}
-
--- 0 is always one
-pub finger_none : (es : Entries) (s : List ℕ) (a : ℕ) → argument_in s a ≡ 0 → Finger es s a
-unfolding reached
-finger_none es s a e = record { index = 0; upto = omega arith; is = e }
 
 -- From a finger
 
@@ -70,16 +66,7 @@ up_reached (entry o u (entry o' u' es)) s a l r lo hi h =
     let e : p ≡ walk s (child_in s a) (count es) = up_reached (entry o' u' es) s a p r lo h.0 h.5 in
     sym h.3 ∙ link_suc s a p R.some ∙ ap (next_in s) e ∙ sym (walk_next s (child_in s a) (count es))
 
-count_onto : (x y : Entries) → count (onto x y) ≡ count x + count y
-unfolding onto
-count_onto none y = omega arith
-count_onto (entry o u x) y = omega (arith, count_onto x (entry o u y))
-
--- the last of the entries that are told from the highest down
-pub finger_of : (lr left : Entries) (s : List ℕ) (a l : ℕ) (r : ℕ → ℕ) (lo m : ℕ) → argument_in s a ≡ l → Up lr s a l r lo m → Finger (onto lr left) s a
-finger_of lr left s a l r lo m e U = record { index = count lr; upto = omega (arith, count_onto lr left); is = e ∙ up_reached lr s a l r lo m U }
-
--- the map whose finger is set to it
+-- the map whose finger is set to the last of its entries that are told from the highest down
 pub map_finger : (z : Size) (lr left : Entries) (s s' : List ℕ) (a l : ℕ) (r : ℕ → ℕ) (lo m hi : ℕ) → length s' ≡ length s → Set s s' a (with_argument l (cell s a))
     → Root s a r lo hi 3 z → Up lr s a l r (suc (r a)) m → Row left s (link s a l) 0 r m hi → Stands (map z (onto lr left)) s' a r lo hi
 unfolding Stands

@@ -1,3 +1,5 @@
+pub mod Entries
+pub mod ByCommand
 pub mod Stands
 pub mod Frames
 pub mod Changes

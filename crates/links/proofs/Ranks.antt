@@ -50,6 +50,3 @@ module _ (s : List ℕ) (r : ℕ → ℕ) (c m e : ℕ) (a : c ≤ m) (b : m ≤
 
   pub row_left : (es : Entries) (q f : ℕ) → Row es s q f r c m → Row es s q f (rotated r c m e) (c + (e - m)) e
   row_left es q f h = row_move es s s q f r (rotated r c m e) c m (c + (e - m)) e (e - m) 0 refl (omega arith) (omega arith) (λ i x y. (refl, omega (arith, spin_left c m e (r i) x y))) h
-
-  pub row_right : (es : Entries) (q f : ℕ) → Row es s q f r m e → Row es s q f (rotated r c m e) c (c + (e - m))
-  row_right es q f h = row_move es s s q f r (rotated r c m e) m e c (c + (e - m)) 0 (m - c) refl (omega arith) (omega arith) (λ i x y. (refl, omega (arith, spin_right c m e (r i) a x y))) h

@@ -1,8 +1,9 @@
 -- Linked entries, taken apart and joined: where one ends the next one begins, in ranks and in links.
 -- Assumes nothing.
-use Prim.Native.Nat.{ℕ, ◌≤◌}
+use Prim.Native.Nat.{ℕ, ◌+◌, ◌*◌, ◌≤◌}
 use mathlib.Core.Path.{◌≡◌, refl, sym, ap, ◌∙◌, subst}
 use mathlib.Core.List.{List}
+use lib.ListN.{length}
 use native.Mathlib.Omega.{arith}
 use Rattle.definitions.specs.Usage.{Usage, Entries, none, entry, ◌<+>◌}
 use Rattle.records.specs.Records.{next_in, child_in, offset_in}
@@ -61,6 +62,23 @@ unfolding Down
 bottom none s q r lo hi e h = refl
 bottom (entry o u es) s q r lo hi e h = absurd (omega (arith, (stands_root u s q r h.0 hi h.2).some))
 
+-- Where some are linked from a record on, it is there; where none are, it is 0, which any bytes have room for that hold a record
+
+pub row_in : (es : Entries) (s : List ℕ) (q : ℕ) (r : ℕ → ℕ) (lo hi n : ℕ) → 32 ≤ n → length s ≤ n → Row es s q 0 r lo hi → q * 32 + 32 ≤ n
+unfolding Stands
+row_in none s q r lo hi n some le h = omega (arith, h.0)
+row_in (entry o u es) s q r lo hi n some le h = omega (arith, (stands_root u s q r lo h.0 h.2).inside)
+
+pub down_in : (es : Entries) (s : List ℕ) (q : ℕ) (r : ℕ → ℕ) (lo hi n : ℕ) → 32 ≤ n → length s ≤ n → Down es s q r lo hi → q * 32 + 32 ≤ n
+unfolding Down
+down_in none s q r lo hi n some le h = omega (arith, h.0)
+down_in (entry o u es) s q r lo hi n some le h = omega (arith, (stands_root u s q r h.0 hi h.2).inside)
+
+pub up_in : (es : Entries) (s : List ℕ) (a l : ℕ) (r : ℕ → ℕ) (lo hi n : ℕ) → 32 ≤ n → length s ≤ n → Up es s a l r lo hi → l * 32 + 32 ≤ n
+unfolding Up
+up_in none s a l r lo hi n some le h = omega (arith, h.0)
+up_in (entry o u es) s a l r lo hi n some le h = omega (arith, (stands_root u s l r h.0 hi h.4).inside)
+
 -- Joined
 
 pub row_none : (s : List ℕ) (q : ℕ) (r : ℕ → ℕ) (lo : ℕ) → Row none s q q r lo lo
@@ -108,27 +126,3 @@ unzip (entry o u x) y s a l r lo m hi h t =
     let R = stands_root u s l r h.0 m h.4 in
     let here : Row (entry o u y) s l 0 r h.0 hi = row_one s o u y l 0 r h.0 m hi h.2 h.4 (subst (λ (n : ℕ). Row y s n 0 r m hi) (link_suc s a l R.some) t) in
     unzip x (entry o u y) s a h.1 r lo h.0 hi h.5 (subst (λ (n : ℕ). Row (entry o u y) s n 0 r h.0 hi) (sym h.3) here)
-
--- Entries alone
-
-pub rev_app : (x y : Entries) → onto x y ≡ onto x none <+> y
-unfolding onto
-rev_app none y = refl
-rev_app (entry o u x) y = rev_app x (entry o u y) ∙ sym (app_app (onto x none) o u y) ∙ ap (λ (z : Entries). z <+> y) (sym (rev_app x (entry o u none)))
-  where
-    app_app : (z : Entries) (o : ℕ) (u : Usage) (y : Entries) → (z <+> entry o u none) <+> y ≡ z <+> entry o u y
-    app_app none o u y = refl
-    app_app (entry o' u' z) o u y = ap (entry o' u') (app_app z o u y)
-
-pub rev_rev : (x y z : Entries) → onto (onto x y) z ≡ onto y (x <+> z)
-unfolding onto
-rev_rev none y z = refl
-rev_rev (entry o u x) y z = rev_rev x (entry o u y) z
-
-pub app_none : (x : Entries) → x <+> none ≡ x
-app_none none = refl
-app_none (entry o u x) = ap (entry o u) (app_none x)
-
-pub rev_twice : (x : Entries) → onto (onto x none) none ≡ x
-unfolding onto
-rev_twice x = rev_rev x none none ∙ app_none x

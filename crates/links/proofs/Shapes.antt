@@ -1,41 +1,31 @@
 -- A usage and its root's command tell the same kind, so a record's command says what stands there.
 -- Assumes nothing.
-use Prim.Native.Nat.{ℕ, suc, ◌<◌}
-use mathlib.Core.Bool.{Bool, true, false}
-use mathlib.Core.Path.{◌≡◌, refl, sym, ap}
+use Prim.Native.Nat.{ℕ, suc}
+use mathlib.Core.Path.{◌≡◌, refl, sym, ap, ◌∙◌}
 use mathlib.Core.List.{List}
-use native.Mathlib.Omega.{arith}
-use Rattle.definitions.specs.Usage.{Size, Usage, unused, leaf, map, array, Entries, size}
+use Rattle.definitions.specs.Usage.{Usage, map, array, Entries, size}
+use Rattle.qptr.specs.Values.{command_of, kind_of}
+use Rattle.qptr.specs.declared.Kind.{Kind}
+use Rattle.qptr.proofs.Nodes.{kind_head}
 use Rattle.records.specs.Records.{command_in, child_in, argument_in}
-use Rattle.links.specs.Standing.{Root, Finger, Stands, Row}
+use Rattle.links.specs.Standing.{Finger, Stands, Row}
+use Rattle.links.proofs.Stands.{stands_root}
+use Rattle.links.proofs.ByCommand.{IsMap, is_map, IsArray, is_array, map_of as map_kind, array_of as array_kind}
 
--- Built
-
-pub map_stands : (z : Size) (es : Entries) (s : List ℕ) (q : ℕ) (r : ℕ → ℕ) (lo hi : ℕ) → Root s q r lo hi 3 z → Finger es s q → Row es s (child_in s q) 0 r (suc (r q)) hi → Stands (map z es) s q r lo hi
-unfolding Stands
-map_stands z es s q r lo hi R F h = (R, F, h)
-
-pub array_stands : (z : Size) (n : ℕ) (e : Usage) (s : List ℕ) (q : ℕ) (r : ℕ → ℕ) (lo hi : ℕ) → Root s q r lo hi 4 z → argument_in s q ≡ n → Stands e s (child_in s q) r (suc (r q)) hi → Stands (array z n e) s q r lo hi
-unfolding Stands
-array_stands z n e s q r lo hi R et h = (R, et, h)
-
--- Told from the command
-
-typed_small : (k : Bool) (z : Size) (t : ℕ) (s : List ℕ) (q : ℕ) (r : ℕ → ℕ) (lo hi : ℕ) → Stands (leaf z k t) s q r lo hi → command_in s q < 3
-unfolding Stands
-typed_small true z t s q r lo hi h = omega (arith, h.0.command)
-typed_small false z t s q r lo hi h = omega (arith, h.0.command)
+-- its kind says the command
+pub kind_says : (u : Usage) (s : List ℕ) (q : ℕ) (r : ℕ → ℕ) (lo hi : ℕ) (k : Kind) → k ≡ kind_of (command_in s q) → Stands u s q r lo hi → command_in s q ≡ command_of k
+kind_says u s q r lo hi k e h = let is = (stands_root u s q r lo hi h).command in is ∙ kind_head k u (e ∙ ap kind_of is)
 
 pub map_of : (u : Usage) (s : List ℕ) (q : ℕ) (r : ℕ → ℕ) (lo hi : ℕ) → command_in s q ≡ 3 → Stands u s q r lo hi → (es : Entries) × (u ≡ map (size u) es) × Finger es s q × Row es s (child_in s q) 0 r (suc (r q)) hi
 unfolding Stands
-map_of (unused z) s q r lo hi k h = absurd (omega (arith, h.command))
-map_of (leaf z b t) s q r lo hi k h = absurd (omega (arith, typed_small b z t s q r lo hi h))
-map_of (map z es) s q r lo hi k h = (es, refl, h.1, h.2)
-map_of (array z n e) s q r lo hi k h = absurd (omega (arith, h.0.command))
+map_of u s q r lo hi k h = go (map_kind u (sym (stands_root u s q r lo hi h).command ∙ k)) h
+  where
+    go : {v : Usage} → IsMap v → Stands v s q r lo hi → (es : Entries) × (v ≡ map (size v) es) × Finger es s q × Row es s (child_in s q) 0 r (suc (r q)) hi
+    go (is_map z es) h = (es, refl, h.1, h.2)
 
 pub array_of : (u : Usage) (s : List ℕ) (q : ℕ) (r : ℕ → ℕ) (lo hi : ℕ) → command_in s q ≡ 4 → Stands u s q r lo hi → (e : Usage) × (u ≡ array (size u) (argument_in s q) e) × Stands e s (child_in s q) r (suc (r q)) hi
 unfolding Stands
-array_of (unused z) s q r lo hi k h = absurd (omega (arith, h.command))
-array_of (leaf z b t) s q r lo hi k h = absurd (omega (arith, typed_small b z t s q r lo hi h))
-array_of (map z es) s q r lo hi k h = absurd (omega (arith, h.0.command))
-array_of (array z n e) s q r lo hi k h = (e, ap (λ (x : ℕ). array z x e) (sym h.1), h.2)
+array_of u s q r lo hi k h = go (array_kind u (sym (stands_root u s q r lo hi h).command ∙ k)) h
+  where
+    go : {v : Usage} → IsArray v → Stands v s q r lo hi → (e : Usage) × (v ≡ array (size v) (argument_in s q) e) × Stands e s (child_in s q) r (suc (r q)) hi
+    go (is_array z n e) h = (e, ap (λ (x : ℕ). array z x e) (sym h.1), h.2)

@@ -74,18 +74,23 @@ finger_still es s s' a a' r lo hi ec ea A h F = record { index = F.index; upto =
 abbrev pub Alike : List ℕ → (ℕ → ℕ) → List ℕ → (ℕ → ℕ) → ℕ → ℕ → ℕ → ℕ → Type 0
 Alike s r s' r' lo hi k k' = (i : ℕ) → lo ≤ r i → r i < hi → (cell s' i ≡ cell s i) × (r' i + k' ≡ r i + k)
 
+-- a root whose record is as it was says what it said, in any interval of ranks that its own lies in
+pub root_same : (s s' : List ℕ) (q : ℕ) (r r' : ℕ → ℕ) (lo hi lo' hi' c : ℕ) (z : Size) → length s' ≡ length s → cell s' q ≡ cell s q → lo' ≤ r' q → r' q < hi'
+    → Root s q r lo hi c z → Root s' q r' lo' hi' c z
+root_same s s' q r r' lo hi lo' hi' c z len e low high R = record {
+  some = R.some;
+  inside = omega (arith, R.inside);
+  low = low;
+  high = high;
+  command = ap (λ (x : Cell). x.command) e ∙ R.command;
+  size = ap (λ (x : Cell). x.size) e ∙ R.size;
+}
+
 pub root_move : (s s' : List ℕ) (q : ℕ) (r r' : ℕ → ℕ) (lo hi lo' hi' k k' c : ℕ) (z : Size) → length s' ≡ length s → lo' + k' ≡ lo + k → hi' + k' ≡ hi + k
     → Alike s r s' r' lo hi k k' → Root s q r lo hi c z → Root s' q r' lo' hi' c z
 root_move s s' q r r' lo hi lo' hi' k k' c z len el eh A R =
     let w = A q R.low R.high in
-    record {
-      some = R.some;
-      inside = omega (arith, R.inside);
-      low = omega (arith, R.low, w.1);
-      high = omega (arith, R.high, w.1);
-      command = ap (λ (x : Cell). x.command) w.0 ∙ R.command;
-      size = ap (λ (x : Cell). x.size) w.0 ∙ R.size;
-    }
+    root_same s s' q r r' lo hi lo' hi' c z len w.0 (omega (arith, R.low, w.1)) (omega (arith, R.high, w.1)) R
 
 mutual
   unfolding Stands
@@ -196,13 +201,10 @@ up_still (entry o u es) s s' a l r r' lo hi len ea A h =
 pub stands_marks : (u : Usage) (s s' : List ℕ) (q : ℕ) (r : ℕ → ℕ) (lo hi : ℕ) → length s' ≡ length s → ((i : ℕ) → cell s' i ≡ cell s i) → Stands u s q r lo hi → Stands u s' q r lo hi
 stands_marks u s s' q r lo hi len A h = stands_still u s s' q r r lo hi len (λ i a b. (A i, refl)) h
 
-pub row_marks : (es : Entries) (s s' : List ℕ) (q e : ℕ) (r : ℕ → ℕ) (lo hi : ℕ) → length s' ≡ length s → ((i : ℕ) → cell s' i ≡ cell s i) → Row es s q e r lo hi → Row es s' q e r lo hi
-row_marks es s s' q e r lo hi len A h = row_still es s s' q e r r lo hi len (λ i a b. (A i, refl)) h
-
 -- Wider intervals
 
 pub root_wide : (s : List ℕ) (q : ℕ) (r : ℕ → ℕ) (lo hi lo' hi' c : ℕ) (z : Size) → lo' ≤ lo → hi ≤ hi' → Root s q r lo hi c z → Root s q r lo' hi' c z
-root_wide s q r lo hi lo' hi' c z a b R = record { some = R.some; inside = R.inside; low = omega (arith, R.low); high = omega (arith, R.high); command = R.command; size = R.size }
+root_wide s q r lo hi lo' hi' c z a b R = root_same s s q r r lo hi lo' hi' c z refl refl (omega (arith, R.low)) (omega (arith, R.high)) R
 
 pub row_wide : (es : Entries) (s : List ℕ) (q e : ℕ) (r : ℕ → ℕ) (lo hi hi' : ℕ) → hi ≤ hi' → Row es s q e r lo hi → Row es s q e r lo hi'
 unfolding Stands

@@ -1,4 +1,4 @@
--- The nodes that are linked below a record are the nodes of the usage there; each has a rank of its own.
+-- The nodes that are linked below a record are the nodes of the usage there.
 -- Assumes nothing.
 use Prim.Native.Nat.{ℕ, zero, suc, ◌+◌, ◌≤◌, ◌<◌}
 use mathlib.Core.Bool.{true, false}
@@ -14,26 +14,13 @@ use Rattle.links.specs.Standing.{Stands, Row}
 use Rattle.links.specs.Rows.{weigh, weigh_row, nodes_at}
 use Rattle.links.proofs.Stands.{stands_root}
 
-mutual
-  unfolding Stands
-
-  pub stands_nodes : (u : Usage) (s : List ℕ) (q : ℕ) (r : ℕ → ℕ) (lo hi : ℕ) → Stands u s q r lo hi → lo + nodes u ≤ hi
-  stands_nodes (unused z) s q r lo hi h = omega (arith, h.low, h.high)
-  stands_nodes (leaf z k t) s q r lo hi h = omega (arith, h.0.low, h.0.high)
-  stands_nodes (map z es) s q r lo hi h = omega (arith, h.0.low, row_nodes es s (child_in s q) 0 r (suc (r q)) hi h.2)
-  stands_nodes (array z n e) s q r lo hi h = omega (arith, h.0.low, stands_nodes e s (child_in s q) r (suc (r q)) hi h.2)
-
-  pub row_nodes : (es : Entries) (s : List ℕ) (q e : ℕ) (r : ℕ → ℕ) (lo hi : ℕ) → Row es s q e r lo hi → lo + nodes_in es ≤ hi
-  row_nodes none s q e r lo hi h = omega (arith, h.1)
-  row_nodes (entry o u es) s q e r lo hi h = omega (arith, stands_nodes u s q r lo h.0 h.2, row_nodes es s (next_in s q) e r h.0 hi h.3)
-
 -- by its command: an array, a map, or neither
 
-pub weigh_array : (k : ℕ) (s : List ℕ) (q : ℕ) → command_in s q ≡ 4 → weigh (suc k) s q ≡ suc (weigh k s (child_in s q))
+weigh_array : (k : ℕ) (s : List ℕ) (q : ℕ) → command_in s q ≡ 4 → weigh (suc k) s q ≡ suc (weigh k s (child_in s q))
 unfolding weigh when◌then◌else◌
 weigh_array k s q e = rw e
 
-pub weigh_map : (k : ℕ) (s : List ℕ) (q : ℕ) → command_in s q ≡ 3 → weigh (suc k) s q ≡ suc (weigh_row k s (child_in s q))
+weigh_map : (k : ℕ) (s : List ℕ) (q : ℕ) → command_in s q ≡ 3 → weigh (suc k) s q ≡ suc (weigh_row k s (child_in s q))
 unfolding weigh when◌then◌else◌
 weigh_map k s q e = rw e
 

@@ -8,6 +8,7 @@ use Rattle.definitions.specs.Table.{Setting}
 use Rattle.definitions.specs.Place.{done, stride_conflict, after, place_by_kind, place}
 use Rattle.records.specs.Records.{command_in, child_in, argument_in}
 use Rattle.links.specs.Standing.{Stands}
+use Rattle.links.proofs.ByCommand.{IsArray, is_array}
 use Rattle.links.proofs.Stands.{stands_wide, stands_le}
 use Rattle.links.proofs.Frames.{kept_none}
 use Rattle.report.specs.Emitted.{Emitted}
@@ -18,7 +19,7 @@ use Rattle.place_states.specs.Starts.{Plain, Starts}
 use Rattle.place_states.specs.Ends.{finished_state}
 use Rattle.place_states.specs.declared.State.{State}
 use Rattle.place_states.proofs.Ending.{next_finished}
-use Rattle.place_states.proofs.Roots.{IsArray, is_array, left_array, right_array, right_size, right_command, right_plain}
+use Rattle.place_states.proofs.Roots.{left_array, right_array, right_size, right_command, right_plain}
 use Rattle.place_arrays.specs.Arrays.{Fits, Longer, Meets, element_pairing, element_state}
 use Rattle.place_arrays.specs.declared.Meeting.{Meeting}
 use Rattle.place_arrays.specs.declared.Meeting.TheVariants.{Inside, Elements, Apart}

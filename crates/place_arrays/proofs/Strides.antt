@@ -6,8 +6,9 @@ use Rattle.definitions.specs.Usage.{Usage}
 use Rattle.definitions.specs.Command.{head_of}
 use Rattle.records.specs.Records.{command_in, argument_in}
 use Rattle.links.specs.Standing.{Stands}
+use Rattle.links.proofs.ByCommand.{IsArray, is_array, array_of}
 use Rattle.place_states.specs.Calls.{Two, Beside}
-use Rattle.place_states.proofs.Roots.{IsArray, is_array, array_of, left_array}
+use Rattle.place_states.proofs.Roots.{left_array}
 
 pub array_argument : (u : Usage) (s : List ℕ) (q : ℕ) (r : ℕ → ℕ) (lo hi : ℕ) → Stands u s q r lo hi → (head_of u).command ≡ 4 → argument_in s q ≡ (head_of u).argument
 unfolding Stands

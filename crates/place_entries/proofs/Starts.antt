@@ -7,6 +7,7 @@ use Rattle.definitions.specs.Table.{Setting}
 use Rattle.definitions.specs.Place.{after, place_by_kind, place}
 use Rattle.records.specs.Records.{command_in, child_in}
 use Rattle.links.specs.Standing.{Stands}
+use Rattle.links.proofs.ByCommand.{IsMap, is_map}
 use Rattle.links.proofs.Stands.{row_low}
 use Rattle.links.proofs.Frames.{kept_none}
 use Rattle.report.specs.Emitted.{Emitted}
@@ -19,7 +20,7 @@ use Rattle.place_states.specs.declared.State.{State}
 use Rattle.place_states.specs.declared.TheConstants.State.{NONE}
 use Rattle.place_states.specs.declared.Rule.TheVariants.{Entries as ByEntries}
 use Rattle.place_states.specs.declared.Todo.TheVariants.{Go}
-use Rattle.place_states.proofs.Roots.{IsMap, is_map, right_map}
+use Rattle.place_states.proofs.Roots.{right_map}
 use Rattle.place_states.proofs.Room.{room_first}
 use Rattle.place_entries.proofs.Resuming.{finish_all}
 

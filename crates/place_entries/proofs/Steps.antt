@@ -10,6 +10,8 @@ use Rattle.definitions.specs.Stream.{bytes}
 use Rattle.records.specs.Records.{next_in, offset_in}
 use Rattle.links.specs.Standing.{Stands}
 use Rattle.links.specs.Rows.{chain}
+use Rattle.links.proofs.Chains.{row_falls}
+use Rattle.links.proofs.Entries.{few_entries}
 use Rattle.links.proofs.Stands.{stands_root, stands_wide}
 use Rattle.report.specs.Emitted.{Emitted}
 use Rattle.report.proofs.Emitting.{emitted_after}
@@ -23,7 +25,6 @@ use Rattle.place_states.specs.declared.Rule.TheVariants.{Entries as ByEntries}
 use Rattle.place_states.specs.declared.Pairing.TheVariants.{Place}
 use Rattle.place_states.specs.declared.Todo.TheVariants.{Pair}
 use Rattle.place_states.proofs.Ending.{next_finished, moves_finished, emitted_unheaded}
-use Rattle.place_states.proofs.Falling.{row_falls}
 use Rattle.place_states.proofs.Outside.{IsEntries, is_entries, standing_entries, waiting_entries}
 use Rattle.place_entries.proofs.Resuming.{finish_none, resume_entry}
 
@@ -46,7 +47,7 @@ module _ (s : List ℕ) (a : ℕ) (st : State) (W : Waiting s a st) (rule : st.r
     where
       go : {y : Beyond} → IsEntries y → Outside W.k y s a st W.rank W.lo W.c W.e W.hi → nodes W.u + outer y ≤ node_limit
           → chain 65536 s (next_in s st.rest) + 1 ≤ chain 65536 s st.rest
-      go (is_entries es) h few = row_falls es s st.rest W.rank W.e W.hi (omega arith) some h.held
+      go (is_entries es) h few = row_falls es s st.rest W.rank W.e W.hi (omega (arith, few_entries es)) some h.held
 
 module _ (s : List ℕ) (rep : Report) (a : ℕ) (st : State) (rule : st.rule ≡ ByEntries) where
   module _ (setting : Setting) {u : Usage} {w : List ℕ} {p : ℕ} {g : Ground} (n : ℕ) where

@@ -19,10 +19,11 @@ use Rattle.links.specs.Standing.{Root, Finger, Stands, Row}
 use Rattle.links.specs.Rows.{Up, onto}
 use Rattle.links.specs.Ranks.{rotated}
 use Rattle.links.specs.Frames.{Kept}
-use Rattle.links.proofs.Stands.{stands_le, row_le, up_le, stands_still, row_still, down_still, up_still}
+use Rattle.links.proofs.Stands.{root_same, stands_le, row_le, up_le, stands_still, row_still, down_still, up_still}
 use Rattle.links.proofs.Frames.{kept_trans, kept_widen, apart}
 use Rattle.links.proofs.Ranks.{rot_kept, rot_right, row_left}
-use Rattle.links.proofs.Rows.{down_none, rev_twice}
+use Rattle.links.proofs.Entries.{append_assoc, rev_twice, few_entries}
+use Rattle.links.proofs.Rows.{down_none}
 use Rattle.links.proofs.Shapes.{map_of}
 use Rattle.report.specs.Emitted.{Emitted}
 use Rattle.report.specs.declared.Report.{Report}
@@ -44,10 +45,8 @@ use Rattle.place_states.proofs.Room.{room_first}
 use Rattle.place_search.specs.Numbers.{Marks, Past}
 use Rattle.place_search.specs.Parts.{Listed, Ended, nothing, by, Parted, Parts}
 use Rattle.place_search.specs.declared.Overlap.{Overlap}
-use Rattle.place_states.proofs.Falling.{few_entries}
 use Rattle.place_maps.specs.Runs.{Ahead, Run, Turned}
-use Rattle.place_maps.proofs.Entries.{append_assoc, under_of, upto_one_more}
-use Rattle.place_maps.proofs.Roots.{root_same}
+use Rattle.place_maps.proofs.Entries.{under_of, upto_one_more}
 use Rattle.place_maps.proofs.Overlaps.{Starting, high_starting, found_past, found_parts}
 use Rattle.place_maps.proofs.Downward.{join_down_lem}
 
@@ -261,7 +260,7 @@ module _ (s s₁ : List ℕ) (a d b base mark rest e : ℕ) (found : Overlap) {o
           stands = rot_right s₁ r G.n mid hi h₁ h₂ u b (stands_still u s s₁ b r r mid hi len (apart s s₁ r r G.m G.n mid hi K (omega arith)) two.right);
           outside = record {
             rule = refl;
-            root = root_same s s₁ a r r' lo mid G.n 3 A.z len w.0 w.1 (omega arith) R;
+            root = root_same s s₁ a r r' lo mid lo G.n 3 A.z len w.0 (omega (arith, R.low, w.1)) (omega (arith, w.1)) R;
             size_fits = A.fits.0;
             offset = refl;
             low_down = G.low_down;

@@ -13,10 +13,11 @@ use Rattle.records.specs.Records.{Cell, cell, next_in, offset_in, with_next, wit
 use Rattle.links.specs.Standing.{Stands, Row}
 use Rattle.links.specs.Rows.{Down, Up, onto}
 use Rattle.links.specs.Frames.{Kept}
-use Rattle.links.proofs.Stands.{stands_root, stands_le, row_le, down_le, up_le, row_low, up_still, row_still}
+use Rattle.links.proofs.Stands.{stands_root, root_same, stands_le, row_le, down_le, up_le, row_low, up_still, row_still}
 use Rattle.links.proofs.Frames.{kept_trans, kept_set, kept_widen, apart, set_trans}
 use Rattle.links.proofs.Changes.{stands_relink}
-use Rattle.links.proofs.Rows.{row_one, bottom, down_none, rev_app}
+use Rattle.links.proofs.Entries.{rev_app, few_entries, onto_nodes}
+use Rattle.links.proofs.Rows.{row_one, bottom, down_none}
 use Rattle.report.specs.Emitted.{Emitted}
 use Rattle.report.proofs.Emitting.{emitted_over}
 use Rattle.report.specs.declared.Report.{Report}
@@ -26,11 +27,8 @@ use Rattle.place_states.specs.Ends.{finished_state, Unheaded}
 use Rattle.place_states.specs.declared.State.{State}
 use Rattle.place_states.specs.declared.Rule.TheVariants.{Join as ByJoin}
 use Rattle.place_states.proofs.Ending.{next_finished, moves_finished, emitted_unheaded}
-use Rattle.place_states.proofs.Falling.{few_entries}
 use Rattle.place_maps.specs.Runs.{Ahead, Run, Turned}
 use Rattle.place_maps.specs.Joining.{without, Passed, Made, Closed, Entered, apart as straddling, Joint, Straddled}
-use Rattle.place_maps.proofs.Entries.{onto_nodes}
-use Rattle.place_maps.proofs.Roots.{root_same}
 use Rattle.place_maps.proofs.Downward.{finish_straddled, finish_none}
 use Rattle.place_maps.proofs.Inserting.{insert_onto}
 use Rattle.place_maps.proofs.Stepping.{by_joins, waits, taken, finish_joint, outer_less}
@@ -78,7 +76,7 @@ straddled {s} {rep} {a} {st} {o} {s₁} {s₂} {rep'} {st'} {left} {head} el len
       let nh = row_le gs s st.q 0 r n hi W in
       let ca : cell s₁ a ≡ cell s a = (X.kept.outs a (omega arith)).0 in
       let U₁ : Up es s₁ a st.low r (suc (r a)) m = up_still es s s₁ a st.low r r (suc (r a)) m len (ap (λ (x : Cell). x.child) ca) (apart s s₁ r r m n (suc (r a)) m X.kept (omega arith)) U in
-      let M : Made (map z (onto es (onto fs gs))) s₁ a r lo hi s₂ = C.made z es (onto fs gs) r lo m hi (root_same s s₁ a r r lo hi hi 3 z len ca refl R.high R) U₁ X.line in
+      let M : Made (map z (onto es (onto fs gs))) s₁ a r lo hi s₂ = C.made z es (onto fs gs) r lo m hi (root_same s s₁ a r r lo hi lo hi 3 z len ca R.low R.high R) U₁ X.line in
       record { stands = M.stands; kept = kept_trans s s₁ s₂ r r r lo hi (kept_widen s s₁ r r m n lo hi (omega (arith, R.low)) nh X.kept) M.kept };
 }
 
@@ -97,7 +95,7 @@ straddles s rep a st {s'} {rep'} e ne Jt T = moves_finished s rep a st s' rep' _
     let nc = stands_le A.u s st.rest r A.n S.c A.stands in
     let ce = stands_le b s st.x r S.c S.e S.stands in
     let eh = row_le high s st.q 0 r S.e g.hi J.high_held in
-    let M = T.made z J.low_down A.init_down high r g.lo J.m A.n g.hi (root_same s s a r r g.lo S.c g.hi 3 z refl refl refl (omega (arith, J.root.high)) J.root) J.low_held A.down
+    let M = T.made z J.low_down A.init_down high r g.lo J.m A.n g.hi (root_same s s a r r g.lo S.c g.lo g.hi 3 z refl refl J.root.low (omega (arith, J.root.high)) J.root) J.low_held A.down
     (row_low high s st.q 0 r S.e A.n g.hi (omega arith) J.high_held) in
     let is : onto J.low_down (onto A.init_down high) ≡ low <+> init <+> high = rev_app J.low_down (onto A.init_down high) ∙ ap (λ x. x <+> onto A.init_down high) (sym J.low_is) ∙ ap (λ x. low <+> x) (rev_app A.init_down high) in
     rw goal (next_finished setting g n s' rep' a (after [] 1 (done (map z (low <+> init <+> high)) (straddle_conflict o d) p)) a st.pairings (record {
@@ -142,7 +140,7 @@ module _ (s s₁ s₂ s₃ : List ℕ) (rep rep' : Report) (a : ℕ) (st : State
       (row_still (without d high) s s₂ above 0 r r f hi len (apart s s₂ r r c f f hi K (omega arith)) (P.row high r f hi J.high_held)) in
       let W : Row (entry d b (without d high)) s₂ x 0 r J.m hi = row_low (entry d b (without d high)) s₂ x 0 r c J.m hi mc
       (row_one s₂ d b (without d high) x 0 r c f hi (ap (λ (q : Cell). q.offset) C₂.here ∙ ap (λ (q : Cell). q.offset) C₁.here) B₂ H) in
-      let M = N.made y J.low_down (without d high) b r lo J.m hi (root_same s s₂ a r r lo c hi 3 y len ca refl (omega (arith, R.high)) R) U₂ W in
+      let M = N.made y J.low_down (without d high) b r lo J.m hi (root_same s s₂ a r r lo c lo hi 3 y len ca R.low (omega (arith, R.high)) R) U₂ W in
       let nothing : mid ≡ none = J.mid_is ∙ ap (λ q. onto q none) (bottom J.mid_down s st.rest r J.m c z J.mid_held) in
       let up : Ascends k 0 (onto J.low_down none <+> high) = subst (λ (q : Entries). Ascends k 0 (q <+> high)) J.low_is (rw nothing at J.ascends) in
       let is : onto (without d J.low_down) (entry d b (without d high)) ≡ insert d b (low <+> high) =

@@ -1,26 +1,11 @@
 -- Entries behind one another: each offset is above all before it, since they ascend.
 -- Assumes nothing.
-use Prim.Native.Nat.{ℕ, suc, ◌+◌, ◌<◌, ◌≤◌}
-use mathlib.Core.Path.{◌≡◌, refl, ap}
+use Prim.Native.Nat.{ℕ, suc, ◌<◌, ◌≤◌}
 use native.Mathlib.Omega.{arith}
-use Rattle.definitions.specs.Usage.{Usage, Entries, none, entry, nodes_in, count, ◌<+>◌}
+use Rattle.definitions.specs.Usage.{Usage, Entries, none, entry, ◌<+>◌}
 use Rattle.definitions.specs.Sound.{Ascends}
 use Rattle.definitions.proofs.Storable.{ascends_back, ascends_behind}
-use Rattle.links.specs.Rows.{onto}
 use Rattle.place_states.specs.Beyond.{UpTo, FromOn}
-
-pub append_assoc : (x y z : Entries) → (x <+> y) <+> z ≡ x <+> (y <+> z)
-append_assoc none y z = refl
-append_assoc (entry o u x) y z = ap (entry o u) (append_assoc x y z)
-
-pub append_count : (es fs : Entries) → count (es <+> fs) ≡ count es + count fs
-append_count none fs = omega arith
-append_count (entry o u es) fs = omega (arith, append_count es fs)
-
-pub onto_nodes : (es fs : Entries) → nodes_in (onto es fs) ≡ nodes_in es + nodes_in fs
-unfolding onto
-onto_nodes none fs = omega arith
-onto_nodes (entry o u es) fs = omega (arith, onto_nodes es (entry o u fs))
 
 -- every offset is below d
 abbrev pub Under : ℕ → Entries → Type 0

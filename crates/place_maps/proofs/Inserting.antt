@@ -12,10 +12,10 @@ use Rattle.definitions.specs.Place.{insert}
 use Rattle.definitions.specs.Sound.{Ascends}
 use Rattle.definitions.proofs.Storable.{ascends_back}
 use Rattle.links.specs.Rows.{onto}
-use Rattle.links.proofs.Rows.{rev_app}
+use Rattle.links.proofs.Entries.{append_assoc, rev_app}
 use Rattle.place_states.specs.Beyond.{UpTo, FromOn}
 use Rattle.place_maps.specs.Joining.{without}
-use Rattle.place_maps.proofs.Entries.{Under, append_assoc, under_of, under_one_more, upto_last}
+use Rattle.place_maps.proofs.Entries.{Under, under_of, under_one_more, upto_last}
 
 pub without_same : (o : ℕ) (u : Usage) (es : Entries) → without o (entry o u es) ≡ es
 unfolding without when◌then◌else◌

@@ -5,7 +5,6 @@ pub mod Inserting
 pub mod Overlaps
 pub mod Turning
 pub mod Lines
-pub mod Roots
 pub mod Linking
 pub mod Stepping
 pub mod Receiving

@@ -8,16 +8,15 @@ use lib.ListN.{length}
 use native.Mathlib.Omega.{arith}
 use Rattle.definitions.specs.Usage.{Usage, Entries, none, entry, count, ◌<+>◌}
 use Rattle.records.specs.Records.{next_in, offset_in}
-use Rattle.links.specs.Standing.{Stands, Row}
+use Rattle.links.specs.Standing.{Stands}
 use Rattle.links.specs.Rows.{Down, chain}
 use Rattle.links.specs.Frames.{Kept}
-use Rattle.links.proofs.Stands.{stands_root, row_le, down_le, stands_wide, row_low, row_still, down_still}
+use Rattle.links.proofs.Stands.{row_le, down_le, stands_wide, row_low, row_still, down_still}
 use Rattle.links.proofs.Frames.{kept_widen, apart}
-use Rattle.links.proofs.Rows.{head, top, end, bottom, first_past, row_one, down_one, row_app}
-use Rattle.links.proofs.Chains.{chain_many}
-use Rattle.place_states.proofs.Falling.{down_chain}
+use Rattle.links.proofs.Rows.{head, top, end, bottom, first_past, row_in, down_in, row_one, down_one, row_app}
+use Rattle.links.proofs.Chains.{chain_many, down_chain}
+use Rattle.links.proofs.Entries.{append_count}
 use Rattle.place_maps.specs.Runs.{Line, lower}
-use Rattle.place_maps.proofs.Entries.{append_count}
 
 pub line_le : (up : Bool) (es : Entries) (s : List ℕ) (q e : ℕ) (r : ℕ → ℕ) (n m : ℕ) → Line up es s q e r n m → lower up n m ≤ lower up m n
 line_le true es s q e r n m h = row_le es s q e r n m h
@@ -84,20 +83,10 @@ pub line_wide : (up : Bool) (es : Entries) (s : List ℕ) (q : ℕ) (r : ℕ →
 line_wide true es s q r y k m le h = (down_wide es s q r y k m le h.0, h.1)
 line_wide false es s q r y k m le h = row_low es s q 0 r k m y le h
 
-row_small : (es : Entries) (s : List ℕ) (q : ℕ) (r : ℕ → ℕ) (lo hi : ℕ) → length s ≤ 2097152 → Row es s q 0 r lo hi → q < 65536
-unfolding Stands
-row_small none s q r lo hi f h = omega (arith, h.0)
-row_small (entry o u es) s q r lo hi f h = omega (arith, (stands_root u s q r lo h.0 h.2).inside)
-
-down_small : (es : Entries) (s : List ℕ) (q : ℕ) (r : ℕ → ℕ) (lo hi : ℕ) → length s ≤ 2097152 → Down es s q r lo hi → q < 65536
-unfolding Down
-down_small none s q r lo hi f h = omega (arith, h.0)
-down_small (entry o u es) s q r lo hi f h = omega (arith, (stands_root u s q r h.0 hi h.2).inside)
-
 -- the number of a line's first record fits two bytes
 pub line_small : (up : Bool) (es : Entries) (s : List ℕ) (q : ℕ) (r : ℕ → ℕ) (n m : ℕ) → length s ≤ 2097152 → Line up es s q 0 r n m → q < 65536
-line_small true es s q r n m f h = row_small es s q r n m f h
-line_small false es s q r n m f h = down_small es s q r m n f h.0
+line_small true es s q r n m f h = omega (arith, row_in es s q r n m 2097152 (omega arith) f h)
+line_small false es s q r n m f h = omega (arith, down_in es s q r m n 2097152 (omega arith) f h.0)
 
 pub line_chain : (up : Bool) (es fs : Entries) (s : List ℕ) (q e : ℕ) (r : ℕ → ℕ) (n m z : ℕ) → count es + count fs ≤ 65536 → Line up es s q e r n m → Line up fs s e 0 r m z
     → chain 65536 s q ≡ count es + count fs

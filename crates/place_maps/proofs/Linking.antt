@@ -11,13 +11,12 @@ use Rattle.records.specs.Records.{Cell, cell, next_in, child_in, offset_in, with
 use Rattle.links.specs.Standing.{Root, Stands, Row}
 use Rattle.links.specs.Rows.{Up, link, onto}
 use Rattle.links.specs.Frames.{Kept, Still}
-use Rattle.links.proofs.Stands.{stands_root, stands_le, row_le, up_le, link_suc, link_zero, link_still, up_still, row_still, row_low}
+use Rattle.links.proofs.Stands.{stands_root, root_same, stands_le, row_le, up_le, link_suc, link_zero, link_still, up_still, row_still, row_low}
 use Rattle.links.proofs.Frames.{kept_trans, kept_set, kept_widen, apart}
 use Rattle.links.proofs.Changes.{stands_relink, rehome}
 use Rattle.links.proofs.Rows.{up_one, end_0, head}
 use Rattle.links.proofs.Fingers.{map_finger}
 use Rattle.place_maps.specs.Joining.{without, Passed, Hung, Linked, Made, Closed, Entered}
-use Rattle.place_maps.proofs.Roots.{root_same}
 use Rattle.place_maps.proofs.Inserting.{without_same, without_other}
 
 -- What follows
@@ -125,7 +124,7 @@ enters_over s s₁ s₂ a l b o ne eo e l₁ l₂ C C₂ = record { made = λ z 
         let F : Row fs s₁ (link s₁ a l) 0 r W.0 hi = subst (λ (x : ℕ). Row fs s₁ x 0 r W.0 hi) (sym (link_suc s₁ a l T.some ∙ ap (λ (y : Cell). y.next) C.here))
         (row_still fs s s₁ (next_in s b) 0 r r W.0 hi l₁ (apart s s₁ r r n m W.0 hi K (omega arith)) W.3) in
         let G : Up (entry o u es) s₁ a l r (suc (r a)) W.0 = up_one s₁ a o u es l p r (suc (r a)) n W.0 (ap (λ (y : Cell). y.offset) C.here ∙ W.1) here B U₁ in
-        let R₁ : Root s₁ a r lo hi 3 z = root_same s s₁ a r r lo hi hi 3 z l₁ ca refl R.high R in
+        let R₁ : Root s₁ a r lo hi 3 z = root_same s s₁ a r r lo hi lo hi 3 z l₁ ca R.low R.high R in
         let is : without o (entry o'' v es) ≡ es = ap (λ (x : ℕ). without o (entry x v es)) (sym U.2 ∙ sym eo ∙ e) ∙ without_same o v es in
         subst (λ (x : Entries). Made (map z (onto x (entry o u fs))) s a r lo hi s₂) (sym is)
         (record {

@@ -14,9 +14,9 @@ use Rattle.definitions.specs.Place.{Placing, ends, past32, ◌≤ˢ◌, past, se
 use Rattle.definitions.specs.Sound.{Ascends}
 use Rattle.definitions.proofs.Storable.{ascends_back}
 use Rattle.links.specs.Rows.{onto}
+use Rattle.links.proofs.Entries.{append_assoc}
 use Rattle.place_search.specs.Parts.{Crossing, any_past, Ended, nothing, by, Starts, Parted}
 use Rattle.place_search.specs.declared.Overlap.{Overlap}
-use Rattle.place_maps.proofs.Entries.{append_assoc}
 
 -- each starts at e or later
 abbrev pub Starting : Size → Entries → Type 0

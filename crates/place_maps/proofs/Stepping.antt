@@ -14,10 +14,12 @@ use Rattle.definitions.specs.Sound.{Storable, Ascends}
 use Rattle.definitions.proofs.Nodes.{append_nodes}
 use Rattle.definitions.proofs.Storable.{ascends_back}
 use Rattle.records.specs.Records.{next_in, size_in, offset_in}
-use Rattle.links.specs.Standing.{Stands, Row}
-use Rattle.links.specs.Rows.{Down, Up, onto, chain}
-use Rattle.links.proofs.Stands.{stands_root, down_le, up_le}
-use Rattle.links.proofs.Rows.{Top, top, rev_app}
+use Rattle.links.specs.Standing.{Stands}
+use Rattle.links.specs.Rows.{Down, onto, chain}
+use Rattle.links.proofs.Chains.{down_falls}
+use Rattle.links.proofs.Entries.{append_assoc, rev_app, few_entries, onto_nodes}
+use Rattle.links.proofs.Stands.{stands_root, root_same, down_le, up_le}
+use Rattle.links.proofs.Rows.{Top, top, row_in, down_in, up_in}
 use Rattle.report.specs.declared.Report.{Report}
 use Rattle.place_states.specs.Beyond.{Beyond, entries, element, joins, finish, outer, UpTo, FromOn}
 use Rattle.place_states.specs.States.{Joins, Outside, Standing, Short, Next, Waiting}
@@ -25,10 +27,8 @@ use Rattle.place_states.specs.declared.State.{State}
 use Rattle.place_states.specs.declared.Rule.{Rule}
 use Rattle.place_states.specs.declared.Rule.TheVariants.{Entries as ByEntries, Element as ByElement, Join as ByJoin}
 use Rattle.place_states.specs.Calls.{Ground}
-use Rattle.place_states.proofs.Falling.{few_entries, down_chain}
 use Rattle.place_maps.specs.Joining.{Within, Joint}
-use Rattle.place_maps.proofs.Entries.{Under, append_assoc, onto_nodes, under_of, under_front, ascends_without}
-use Rattle.place_maps.proofs.Roots.{root_same}
+use Rattle.place_maps.proofs.Entries.{Under, under_of, under_front, ascends_without}
 use Rattle.place_maps.proofs.Downward.{down_from, finish_last}
 
 other : {A : Type 0} {x : Rule} → x ≡ ByJoin → x ≡ ByEntries → A
@@ -102,21 +102,6 @@ waits s a st W e = go W.y W.outside W.few
 
 -- Where a state's records are: none is record 0, which the bytes have too
 
-up_in : (es : Entries) (s : List ℕ) (a l : ℕ) (r : ℕ → ℕ) (lo hi : ℕ) → 32 ≤ length s → Up es s a l r lo hi → l * 32 + 32 ≤ length s
-unfolding Up
-up_in none s a l r lo hi le h = omega (arith, h.0)
-up_in (entry o u es) s a l r lo hi le h = (stands_root u s l r h.0 hi h.4).inside
-
-down_in : (es : Entries) (s : List ℕ) (q : ℕ) (r : ℕ → ℕ) (lo hi : ℕ) → 32 ≤ length s → Down es s q r lo hi → q * 32 + 32 ≤ length s
-unfolding Down
-down_in none s q r lo hi le h = omega (arith, h.0)
-down_in (entry o u es) s q r lo hi le h = (stands_root u s q r h.0 hi h.2).inside
-
-row_in : (es : Entries) (s : List ℕ) (q : ℕ) (r : ℕ → ℕ) (lo hi : ℕ) → 32 ≤ length s → Row es s q 0 r lo hi → q * 32 + 32 ≤ length s
-unfolding Stands
-row_in none s q r lo hi le h = omega (arith, h.0)
-row_in (entry o u es) s q r lo hi le h = (stands_root u s q r lo h.0 h.2).inside
-
 pub within : (s : List ℕ) (a : ℕ) (st : State) → Waiting s a st → st.rule ≡ ByJoin → Within s a st
 within s a st W e =
     let X = waits s a st W e in
@@ -125,9 +110,9 @@ within s a st W e =
     record {
       a_in = J.root.inside;
       x_in = (stands_root X.u s st.x X.r X.c X.e X.stands).inside;
-      low_in = up_in J.low_down s a st.low X.r (suc (X.r a)) J.m some J.low_held;
-      rest_in = down_in J.mid_down s st.rest X.r J.m X.c some J.mid_held;
-      q_in = row_in X.high s st.q X.r X.e X.hi some J.high_held;
+      low_in = up_in J.low_down s a st.low X.r (suc (X.r a)) J.m (length s) some (omega arith) J.low_held;
+      rest_in = down_in J.mid_down s st.rest X.r J.m X.c (length s) some (omega arith) J.mid_held;
+      q_in = row_in X.high s st.q X.r X.e X.hi (length s) some (omega arith) J.high_held;
       linkable = W.linkable;
     }
 
@@ -197,7 +182,7 @@ module _ {k : ℕ} {z : Size} {low mid high : Entries} {d : ℕ} {s : List ℕ} 
       let mn = down_le A.init_down s (next_in s st.rest) r J.m A.n A.down in
       record {
         rule = rule;
-        root = root_same s s a r r lo c A.n 3 z refl refl refl (omega arith) J.root;
+        root = root_same s s a r r lo c lo A.n 3 z refl refl J.root.low (omega arith) J.root;
         size_fits = J.size_fits;
         offset = offset;
         low_down = J.low_down;
@@ -219,9 +204,5 @@ pub falls : (s : List ℕ) (a : ℕ) (st : State) → Waiting s a st → st.rule
 falls s a st W e ne =
     let X = waits s a st W e in
     let J = X.joins in
-    let v = top J.mid_down s st.rest X.r J.m X.c ne J.mid_held in
-    let less : count J.mid_down ≡ suc (count v.rest) = ap count v.is in
     let few : count J.mid_down ≤ 65536 = omega (arith, X.few, few_entries J.mid_down, onto_nodes J.mid_down none, ap nodes_in J.mid_is) in
-    let x = down_chain 65536 J.mid_down s st.rest X.r J.m X.c few J.mid_held in
-    let y = down_chain 65536 v.rest s (next_in s st.rest) X.r J.m v.m (omega arith) v.down in
-    omega (arith, x, y)
+    down_falls J.mid_down s st.rest X.r J.m X.c few ne J.mid_held

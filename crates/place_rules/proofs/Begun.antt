@@ -1,19 +1,19 @@
 -- Where a placing has begun: refused by its sizes, with the number; or by the rule of b's kind and a's, which is what the placing is.
 -- Assumes nothing.
-use Rattle.std.proofs.Common.{◌≡◌, ℕ, ◌+◌, ◌≤◌, true, false, List, [], length, sym, refl, ap, ◌∙◌, arith}
+use Rattle.std.proofs.Common.{◌≡◌, ℕ, ◌+◌, List, [], length, refl, ◌∙◌, arith}
 use Rattle.std.specs.Prelude.{Result as Returned, Ok, Err}
-use Rattle.definitions.specs.Usage.{Usage, unused, leaf, map, array, nodes}
-use Rattle.definitions.specs.Command.{head_of}
+use Rattle.definitions.specs.Usage.{Usage, nodes}
 use Rattle.definitions.specs.Table.{Setting}
 use Rattle.definitions.specs.Place.{Result, refused, after, size_refusal, unless_refused, place_by_kind, place}
 use Rattle.definitions.proofs.PlaceFuel.{place_is}
 use Rattle.layout.specs.declared.Table.{Table}
 use Rattle.qptr.specs.Values.{size_of, command_of, kind_of}
 use Rattle.qptr.specs.declared.Kind.{Kind}
-use Rattle.qptr.proofs.Nodes.{command_kind}
 use Rattle.qptr.specs.declared.MaxSize.{MaxSize}
 use Rattle.records.specs.Records.{command_in, size_in}
 use Rattle.links.specs.Rows.{nodes_at}
+use Rattle.links.proofs.ByCommand.{IsUnused, is_unused_lem}
+use Rattle.links.proofs.Shapes.{kind_says}
 use Rattle.links.proofs.Stands.{stands_le, stands_wide}
 use Rattle.links.proofs.Frames.{kept_none}
 use Rattle.report.specs.declared.Report.{Report}
@@ -27,27 +27,17 @@ use Rattle.place_states.specs.declared.SizeRefusal.{SizeRefusal}
 use Rattle.place_states.specs.declared.SizeRefusal.TheVariants.{Outgrown, Past32}
 use Rattle.place_states.specs.declared.State.{State}
 use Rattle.place_states.proofs.Ending.{next_finished}
-use Rattle.place_states.proofs.Roots.{IsUnused, is_unused_lem, left_size, right_size, left_command, right_command, right_unused}
+use Rattle.place_states.proofs.Roots.{left_size, right_size, right_unused}
 use Rattle.place_states.proofs.Room.{place_short}
 
 -- A usage's record has a kind's command, so its kind says which.
 
-command_small : (u : Usage) → (head_of u).command ≤ 4
-command_small (unused z) = omega arith
-command_small (leaf z true t) = omega arith
-command_small (leaf z false t) = omega arith
-command_small (map z es) = omega arith
-command_small (array z n e) = omega arith
-
-of_kind : (c : ℕ) (k : Kind) → c ≤ 4 → k ≡ kind_of c → c ≡ command_of k
-of_kind c k small e = sym (command_kind c small) ∙ sym (ap command_of e)
-
 module _ {table : Table} {s : List ℕ} {a b : ℕ} (R : Ready table s a b) (k : Kind) where
   pub left_of_kind : k ≡ kind_of (command_in s a) → command_in s a ≡ command_of k
-  left_of_kind e = of_kind (command_in s a) k (let is = left_command R.two in rw is (command_small R.t)) e
+  left_of_kind e = kind_says R.t s a R.r R.lo R.mid k e R.two.left
 
   pub right_of_kind : k ≡ kind_of (command_in s b) → command_in s b ≡ command_of k
-  right_of_kind e = of_kind (command_in s b) k (let is = right_command R.two in rw is (command_small R.u)) e
+  right_of_kind e = kind_says R.u s b R.r R.mid R.hi k e R.two.right
 
 -- rule 1
 pub begins_unused : (table : Table) (s : List ℕ) (rep : Report) (a d b : ℕ) (st : State) → command_in s b ≡ 0 → st ≡ finished_state a 1 → Begins table s a d b rep s rep (Ok st)

@@ -11,6 +11,7 @@ use Rattle.definitions.specs.Usage.{Size, fixed, Usage, Entries, none, entry, si
 use Rattle.definitions.specs.Place.{◌≤ˢ◌}
 use Rattle.records.specs.Records.{next_in, size_in, offset_in}
 use Rattle.links.specs.Standing.{Stands, Row}
+use Rattle.links.proofs.Entries.{append_assoc, append_count}
 use Rattle.links.proofs.Stands.{stands_root}
 use Rattle.links.proofs.Rows.{Head, head, row_none, row_one, row_app}
 use Rattle.place_search.specs.Table.{nothing_is, top_of, Tells, Rows}
@@ -19,17 +20,13 @@ use Rattle.place_search.specs.Parts.{Crossing, Starts}
 use Rattle.place_search.specs.Seeking.{Linked, Within, Stopped, Before}
 use Rattle.place_search.specs.Cutting.{Above, Behind, Cuts}
 use Rattle.place_search.specs.declared.Entry.{Entry}
-use Rattle.place_search.proofs.Linking.{append_count, linked_inside, linked_within, linked_next}
+use Rattle.place_search.proofs.Linking.{linked_inside, linked_within, linked_next}
 use Rattle.place_search.proofs.Searching.{Later, Searched, passed, found, searched}
 
 -- each starts before e
 abbrev Upto : Size → Entries → Type 0
 Upto e none = Unit {0}
 Upto e (entry o u es) = ((e ≤ˢ fixed o) ≡ false) × Upto e es
-
-append_assoc : (x y z : Entries) → (x <+> y) <+> z ≡ x <+> (y <+> z)
-append_assoc none y z = refl
-append_assoc (entry o u x) y z = ap (entry o u) (append_assoc x y z)
 
 -- of es, which are linked from record q on, those before record p start before e, and they are the first k rows of the table
 pub record Tabled (es : Entries) (r : ℕ → ℕ) (lo hi : ℕ) (s : List ℕ) (q e : ℕ) (t : List Entry) (k p : ℕ) : Type 0 where

@@ -5,24 +5,16 @@ use mathlib.Core.Path.{◌≡◌, sym, ap, subst}
 use mathlib.Core.List.{List}
 use native.Mathlib.Omega.{arith}
 use lib.ListN.{length}
-use Rattle.definitions.specs.Usage.{Entries, none, entry, count, nodes_in, ◌<+>◌}
-use Rattle.definitions.proofs.Nodes.{some_node}
+use Rattle.definitions.specs.Usage.{count}
 use Rattle.records.specs.Records.{next_in, child_in}
 use Rattle.links.specs.Standing.{Row}
 use Rattle.links.specs.Rows.{chain}
 use Rattle.links.proofs.Stands.{stands_root}
 use Rattle.links.proofs.Rows.{Head, head}
-use Rattle.links.proofs.Chains.{chain_many}
+use Rattle.links.proofs.Chains.{row_falls}
+use Rattle.links.proofs.Entries.{few_entries}
 use Rattle.place_search.specs.Parts.{Listed}
 use Rattle.place_search.specs.Seeking.{Linked, Within}
-
-pub append_count : (x y : Entries) → count (x <+> y) ≡ count x + count y
-append_count none y = omega arith
-append_count (entry o u x) y = omega (arith, append_count x y)
-
-pub few_entries : (es : Entries) → count es ≤ nodes_in es
-few_entries none = omega arith
-few_entries (entry o u es) = omega (arith, some_node u, few_entries es)
 
 pub listed_linked : {s : List ℕ} {a c : ℕ} → Listed s a → c ≡ child_in s a → Linked s c 0
 listed_linked {s} L e = record {
@@ -63,8 +55,4 @@ module _ {s : List ℕ} {p k : ℕ} (L : Linked s p k) where
         }
 
     pub linked_less : chain 65536 s p' < chain 65536 s p
-    linked_less =
-        let v = first ne in
-        let x : chain 65536 s p ≡ count L.es = chain_many 65536 L.es s p L.r L.lo L.hi (omega (arith, L.few)) L.row in
-        let y : chain 65536 s (next_in s p) ≡ count v.rest = chain_many 65536 v.rest s (next_in s p) L.r v.m L.hi (omega (arith, L.few, ap count v.is)) v.row in
-        omega (arith, x, y, ap (chain 65536 s) e, ap count v.is)
+    linked_less = omega (arith, row_falls L.es s p L.r L.lo L.hi (omega (arith, L.few)) ne L.row, ap (chain 65536 s) e)

@@ -13,13 +13,13 @@ use Rattle.records.specs.Records.{next_in, offset_in}
 use Rattle.links.specs.Standing.{Row}
 use Rattle.links.specs.Rows.{Up, link, onto}
 use Rattle.links.proofs.Stands.{stands_root, link_suc}
-use Rattle.links.proofs.Rows.{row_none, row_app, up_run, up_one, rev_app, rev_rev}
+use Rattle.links.proofs.Entries.{append_count, rev_app, rev_rev}
+use Rattle.links.proofs.Rows.{row_none, row_app, up_run, up_one}
 use Rattle.place_search.specs.Numbers.{Marks}
 use Rattle.place_search.specs.Parts.{any_past, Ended, Parted, Told}
 use Rattle.place_search.specs.Seeking.{Linked, Before, Begun, Skips, Sought}
 use Rattle.place_search.specs.Cutting.{Above, Behind, Cuts, Between, Reaches, Found}
 use Rattle.place_search.specs.declared.Overlap.{Overlap}
-use Rattle.place_search.proofs.Linking.{append_count}
 use Rattle.place_search.proofs.Skipping.{last_ended}
 use Rattle.place_search.proofs.Filling.{starts_at}
 

@@ -12,14 +12,15 @@ use Rattle.definitions.specs.Place.{ends, ◌≤ˢ◌}
 use Rattle.records.specs.Records.{next_in, child_in, size_in, argument_in, offset_in}
 use Rattle.links.specs.Standing.{Row, Finger}
 use Rattle.links.specs.Rows.{Up, link, onto, chain}
+use Rattle.links.proofs.Entries.{few_entries, rev_app, count_onto}
 use Rattle.links.proofs.Stands.{stands_root, link_suc}
 use Rattle.links.proofs.Fingers.{Parted as Fingered, finger_split}
-use Rattle.links.proofs.Rows.{head, up_none, up_one, rev_app}
+use Rattle.links.proofs.Rows.{head, up_in, up_none, up_one}
 use Rattle.place_search.specs.Numbers.{Marks}
 use Rattle.place_search.specs.Parts.{Listed, Ended, nothing, by, Parts}
 use Rattle.place_search.specs.Seeking.{Linked, Within, Early, Passes, Begun, Skips, Sought}
 use Rattle.place_search.specs.declared.Overlap.{Overlap}
-use Rattle.place_search.proofs.Linking.{append_count, few_entries, linked_inside, linked_within, linked_next, linked_less}
+use Rattle.place_search.proofs.Linking.{linked_inside, linked_within, linked_next, linked_less}
 
 -- the last that was stepped over
 
@@ -84,11 +85,6 @@ begun_first {es} {r} {lo} {hi} {s} {a} e h = record {
 
 -- the finger f
 
-up_inside : (x : Entries) (s : List ℕ) (a f : ℕ) (r : ℕ → ℕ) (lo m : ℕ) → (f ≡ 0 → ⊥) → Up x s a f r lo m → f * 32 + 32 ≤ length s
-unfolding Up
-up_inside none s a f r lo m ne U = absurd (ne U.0)
-up_inside (entry o u x) s a f r lo m ne U = (stands_root u s f r U.0 m U.4).inside
-
 split_at : (es : Entries) (s : List ℕ) (a : ℕ) (r : ℕ → ℕ) (lo hi : ℕ) {f : ℕ} → f ≡ argument_in s a → Finger es s a → Row es s (child_in s a) 0 r lo hi → Fingered es s a f r lo hi
 split_at es s a r lo hi e F h = subst (λ (f : ℕ). Fingered es s a f r lo hi) (sym e) (finger_split es s a r lo hi F h)
 
@@ -97,7 +93,7 @@ module _ {s : List ℕ} {a f : ℕ} (L : Listed s a) (e : f ≡ argument_in s a)
   listed_split = split_at L.es s a L.r L.lo L.hi e L.finger L.row
 
   pub finger_within : Within s f
-  finger_within = record { inside = λ ne. let F = listed_split in up_inside F.lr s a f L.r L.lo F.m ne F.up }
+  finger_within = record { inside = λ ne. let F = listed_split in up_in F.lr s a f L.r L.lo F.m (length s) (omega (arith, L.inside)) (omega arith) F.up }
 
   module _ {d g : ℕ} {c : Bool} (P : Passes s f d g c) (ok : c ≡ true) where
     pub finger_inside : f * 32 + 32 ≤ length s
@@ -107,7 +103,7 @@ module _ {s : List ℕ} {a f : ℕ} (L : Listed s a) (e : f ≡ argument_in s a)
     finger_linked eq =
         let F = listed_split in
         let some : 1 ≤ f = omega (arith, (P.early ok).some) in
-        let c : count L.es ≡ count (onto F.lr none) + count F.left = ap count (F.is ∙ rev_app F.lr F.left) ∙ append_count (onto F.lr none) F.left in
+        let c : count L.es ≡ count F.lr + count F.left = ap count F.is ∙ count_onto F.lr F.left in
         record {
           es = F.left;
           r = L.r;

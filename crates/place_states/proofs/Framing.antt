@@ -1,12 +1,12 @@
 -- What stands outside of the pair stays where only records of the pair's ranks change: all of it has ranks below or above those.
 -- Assumes nothing.
-use Rattle.std.proofs.Common.{ℕ, suc, ◌≤◌, List, sym, refl, ap, ◌∙◌, subst, arith}
+use Rattle.std.proofs.Common.{ℕ, suc, ◌≤◌, List, sym, ap, ◌∙◌, subst, arith}
 use Rattle.records.specs.Records.{Cell}
 use Rattle.definitions.specs.Usage.{Size}
 use Rattle.links.specs.Standing.{Root}
 use Rattle.links.specs.Rows.{Up}
 use Rattle.links.specs.Frames.{Kept}
-use Rattle.links.proofs.Stands.{root_move, row_still, down_still, up_still, down_le}
+use Rattle.links.proofs.Stands.{root_same, row_still, down_still, up_still, down_le}
 use Rattle.links.proofs.Frames.{apart}
 use Rattle.place_states.specs.Beyond.{Beyond, entries, element, joins}
 use Rattle.place_states.specs.States.{Outside}
@@ -15,7 +15,8 @@ use Rattle.place_states.specs.declared.State.{State}
 -- a root below the pair
 root_below : (s s' : List ℕ) (q : ℕ) (r r' : ℕ → ℕ) (lo c e k : ℕ) (z : Size) → Kept s r s' r' c e → Root s q r lo c k z → Root s' q r' lo c k z
 root_below s s' q r r' lo c e k z K R =
-    root_move s s' q r r' lo c lo c 0 0 k z K.len refl refl (λ i a b. let w = K.outs i (λ x y. omega arith) in (w.0, omega (arith, w.1))) R
+    let w = K.outs q (λ x y. omega (arith, R.high)) in
+    root_same s s' q r r' lo c lo c k z K.len w.0 (omega (arith, R.low, w.1)) (omega (arith, R.high, w.1)) R
 
 -- the pair, or its result, has the ranks from c to e
 pub outside_kept : (k : ℕ) (y : Beyond) (s s' : List ℕ) (a : ℕ) (st : State) (r r' : ℕ → ℕ) (lo c e hi : ℕ) → c ≤ e → Kept s r s' r' c e

@@ -3,7 +3,6 @@ pub mod Ahead
 pub mod Answering
 pub mod Outside
 pub mod Framing
-pub mod Falling
 pub mod Starting
 pub mod Roots
 pub mod Room

@@ -1,45 +1,16 @@
--- A root's command tells the kind of its usage: no two kinds share one.
+-- A root's command tells the kind of its usage, and whether rules 1 and 2 take it.
 -- Assumes nothing.
-use Rattle.std.proofs.Common.{◌≡◌, ℕ, zero, suc, true, false, List, refl, arith}
-use Rattle.definitions.specs.Usage.{Size, Usage, unused, leaf, map, array, Entries, size}
+use Rattle.std.proofs.Common.{◌≡◌, ℕ, zero, suc, List, refl, arith}
+use Rattle.definitions.specs.Usage.{Usage, unused, leaf, map, array, size}
 use Rattle.definitions.specs.Command.{head_of}
 use Rattle.definitions.specs.Table.{Setting}
 use Rattle.definitions.specs.Place.{Placing, place_by_kind, place_in_kind}
 use Rattle.records.specs.Records.{command_in, size_in}
 use Rattle.links.specs.Standing.{Root}
+use Rattle.links.proofs.ByCommand.{IsUnused, IsMap, IsArray, unused_of, map_of, array_of}
 use Rattle.links.proofs.Stands.{stands_root}
 use Rattle.place_states.specs.Calls.{Two}
 use Rattle.place_states.specs.Starts.{Plain}
-
-pub data IsUnused : Usage → Type 0 where
-  is_unused_lem : (z : Size) → IsUnused (unused z)
-
-pub data IsMap : Usage → Type 0 where
-  is_map : (z : Size) (es : Entries) → IsMap (map z es)
-
-pub data IsArray : Usage → Type 0 where
-  is_array : (z : Size) (n : ℕ) (e : Usage) → IsArray (array z n e)
-
-unused_of : (u : Usage) → (head_of u).command ≡ 0 → IsUnused u
-unused_of (unused z) e = is_unused_lem z
-unused_of (leaf z true t) e = absurd (omega arith)
-unused_of (leaf z false t) e = absurd (omega arith)
-unused_of (map z es) e = absurd (omega arith)
-unused_of (array z n v) e = absurd (omega arith)
-
-map_of : (u : Usage) → (head_of u).command ≡ 3 → IsMap u
-map_of (unused z) e = absurd (omega arith)
-map_of (leaf z true t) e = absurd (omega arith)
-map_of (leaf z false t) e = absurd (omega arith)
-map_of (map z es) e = is_map z es
-map_of (array z n v) e = absurd (omega arith)
-
-pub array_of : (u : Usage) → (head_of u).command ≡ 4 → IsArray u
-array_of (unused z) e = absurd (omega arith)
-array_of (leaf z true t) e = absurd (omega arith)
-array_of (leaf z false t) e = absurd (omega arith)
-array_of (map z es) e = absurd (omega arith)
-array_of (array z n v) e = is_array z n v
 
 -- rules 1 and 2 leave the others to a's kind
 plain_of : (setting : Setting) (place : Placing) (a : Usage) (d : ℕ) (b : Usage) → Plain (head_of b).command d

@@ -9,6 +9,7 @@ use Rattle.layout.specs.declared.Table.{Table}
 use Rattle.qptr.specs.Values.{size_of}
 use Rattle.qptr.specs.declared.MaxSize.{MaxSize}
 use Rattle.records.specs.Records.{command_in, size_in, cell, with_size as sized, Set}
+use Rattle.links.proofs.ByCommand.{IsUnused, is_unused_lem}
 use Rattle.links.proofs.Stands.{stands_le, stands_wide}
 use Rattle.links.proofs.Frames.{kept_set, kept_widen}
 use Rattle.links.proofs.Changes.{stands_resize}
@@ -21,7 +22,7 @@ use Rattle.place_states.specs.Ends.{finished_state}
 use Rattle.place_states.specs.declared.State.{State}
 use Rattle.place_states.proofs.Ending.{next_finished}
 use Rattle.place_states.proofs.Starting.{starts_begins}
-use Rattle.place_states.proofs.Roots.{IsUnused, is_unused_lem, left_unused, left_size, right_root, right_plain}
+use Rattle.place_states.proofs.Roots.{left_unused, left_size, right_root, right_plain}
 use Rattle.place_unused.specs.Resized.{Resized}
 
 pub resized : (s s₁ : List ℕ) (a b : ℕ) (z : MaxSize) (st : State) → command_in s a ≡ 0 → size_of z ≡ size_in s a → length s₁ ≡ length s
