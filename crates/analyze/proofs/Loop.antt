@@ -9,14 +9,12 @@ use Rattle.definitions.specs.Place.{Result, refused, place}
 use Rattle.layout.specs.declared.Table.{Table}
 use Rattle.layout.specs.Places.{Known}
 use Rattle.links.specs.Rows.{chain, nodes_at}
-use Rattle.links.proofs.Stands.{stands_root}
-use Rattle.links.proofs.Weights.{nodes_at_lem}
 use Rattle.place_states.specs.Calls.{Two, Ready, Near, Linkable, Ground, Done, ground, placing, merging, Placed}
 use Rattle.place_states.specs.Beyond.{Beyond, entries, element, joins, heading, entry_head, resume, act, outer}
 use Rattle.report.specs.declared.Report.{Report}
 use Rattle.place_states.specs.Refusals.{number_of}
 use Rattle.place_states.specs.Ends.{merged_of}
-use Rattle.place_states.specs.States.{Pending, Next, Short, Waiting, Moves, turns}
+use Rattle.place_states.specs.States.{Pending, Next, Short, Waiting, turns}
 use Rattle.place_states.specs.Starts.{Began}
 use Rattle.place_states.specs.declared.State.{State}
 use Rattle.place_states.specs.declared.Merged.{Merged}
@@ -28,6 +26,7 @@ use Rattle.place_states.proofs.Ahead.{next_ends, next_holds, next_pair}
 use Rattle.report.proofs.Emitting.{kept_both, kept_emitted}
 use Rattle.place_states.proofs.Answering.{done_ok, done_err, refused_done, done_kept}
 use Rattle.place_states.proofs.Room.{place_short}
+use Rattle.place_states.proofs.Starting.{ready_two, two_nodes}
 use Rattle.place_rules.specs.Settling.{Settled}
 use Rattle.place_rules.proofs.Settling.{settled_next}
 use Rattle.analyze.proofs.Waits.{outside_chain}
@@ -117,20 +116,12 @@ module _ {table : Table} {sₑ s₀ s : List ℕ} {repₑ rep₀ rep : Report} {
 
   -- A pair is pending
 
-  nodes_here : all ≡ nodes_at sₑ a + nodes_at sₑ b
-  nodes_here = omega (arith, R.two.few, nodes_at_lem R.t sₑ a R.r R.lo R.mid R.two.left (omega (arith, R.two.few)), nodes_at_lem R.u sₑ b R.r R.mid R.hi R.two.right (omega (arith, R.two.few)))
-
   module _ {how : Pairing} (asks : st.todo ≡ Pair how) where
     abbrev pending : Pending how R.setting (place R.setting R.t d R.u) here all s rep a st
     pending = next_pair alive asks
 
-    nodes_pair : nodes pending.t + nodes pending.u ≡ nodes_at s st.x + nodes_at s st.m
-    nodes_pair =
-        let Q = pending in
-        omega (arith, Q.two.few, nodes_at_lem Q.t s st.x Q.rank Q.c Q.m Q.two.left (omega (arith, Q.two.few)), nodes_at_lem Q.u s st.m Q.rank Q.m Q.e Q.two.right (omega (arith, Q.two.few)))
-
     pair_less : nodes_at s st.x + nodes_at s st.m < nodes_at sₑ a + nodes_at sₑ b
-    pair_less = omega (arith, nodes_here, nodes_pair, pending.within, outer_some pending.y)
+    pair_less = omega (arith, two_nodes R.two, two_nodes pending.two, pending.within, outer_some pending.y)
       where
         outer_some : (y : Beyond) → 1 ≤ outer y
         outer_some (entries es) = omega arith
@@ -138,26 +129,7 @@ module _ {table : Table} {sₑ s₀ s : List ℕ} {repₑ rep₀ rep : Report} {
         outer_some (joins z low mid high o) = omega arith
 
     pair_ready : length s₀ ≡ length sₑ → Ready table s st.x st.m
-    pair_ready l =
-        let Q = pending in
-        let T = stands_root Q.t s st.x Q.rank Q.c Q.m Q.two.left in
-        let U = stands_root Q.u s st.m Q.rank Q.m Q.e Q.two.right in
-        record {
-          setting = R.setting;
-          known = R.known;
-          t = Q.t;
-          u = Q.u;
-          r = Q.rank;
-          lo = Q.c;
-          mid = Q.m;
-          hi = Q.e;
-          two = Q.two;
-          left_in = T.inside;
-          right_in = U.inside;
-          left_some = T.some;
-          right_some = U.some;
-          linkable = linkable l;
-        }
+    pair_ready l = ready_two R.setting pending.two R.known (linkable l)
 
     headed : (y : Beyond) (w : List ℕ) (o : ℕ) → length ((heading y ++ w) ++ entry_head y o) ≤ length w + 6
     headed (entries es) w o = omega (arith, length-append (0x30 ∷ w) (entry_head (entries es) o))
@@ -174,18 +146,6 @@ module _ {table : Table} {sₑ s₀ s : List ℕ} {repₑ rep₀ rep : Report} {
 -- Turns
 
 module _ {table : Table} {s₀ s : List ℕ} {rep₀ rep : Report} {st₀ st : State} {at a : ℕ} (L : Loop table s₀ rep₀ st₀ at a s rep st) where
-  pub loop_step : st.todo ≡ Go → {s₂ : List ℕ} {rep₂ : Report} {st' : State} → length s₂ ≡ length s → Moves s rep a st s₂ rep₂ st' → Loop table s₀ rep₀ st₀ at a s₂ rep₂ st'
-  loop_step held {s₂} {rep₂} {st'} ls M = record {
-    len = ls ∙ L.len;
-    next = λ setting known goal g n base short N. on setting goal g n base short (L.next setting known goal g n base short N);
-  }
-    where
-      on : (setting : Setting) (goal : Result Usage) (g : Ground) (n : ℕ) → g.report.at ≡ at → Short at goal → Next setting goal g n s rep a st → Next setting goal g n s₂ rep₂ a st'
-      on setting goal g n base short X =
-          let H = next_holds X held in
-          let brief : Short g.report.at goal = rw base short in
-          rw H.comes at (M.next setting H.y H.u H.w H.p g n H.within H.standing (rw (← H.comes) at brief))
-
   -- the call's answer is what the state asks for
   module _ {how : Pairing} (asks : st.todo ≡ Pair how) (near : at ≤ 2 ^ 62) {s₂ : List ℕ} {rep₂ rep₃ : Report} {r : Merged}
       (P : Placed (acting how st.d) table s st.x st.m s₂ (Ok r) rep rep₂)

@@ -17,6 +17,7 @@ use Rattle.links.proofs.Stands.{stands_root, stands_le}
 use Rattle.links.proofs.Frames.{kept_trans}
 use Rattle.links.proofs.Ranks.{rot_kept, rot_left, rot_right}
 use Rattle.place_states.specs.Calls.{Two, Ready, Done, ground, placing, merging, Placed}
+use Rattle.place_states.proofs.Starting.{ready_two}
 use Rattle.report.specs.declared.Report.{Report}
 use Rattle.place_states.specs.declared.Merged.{Merged}
 use Rattle.place_states.specs.declared.SizeRefusal.{SizeRefusal}
@@ -73,22 +74,7 @@ module _ {k : ℕ} {s : List ℕ} {a b : ℕ} {r : ℕ → ℕ} {lo mid hi : ℕ
   }
 
 pub ready_swap : {table : Table} {s : List ℕ} {a b : ℕ} → Ready table s a b → Ready table s b a
-ready_swap R = record {
-  setting = R.setting;
-  known = R.known;
-  t = R.u;
-  u = R.t;
-  r = rotated R.r R.lo R.mid R.hi;
-  lo = R.lo;
-  mid = R.lo + (R.hi - R.mid);
-  hi = R.hi;
-  two = two_swap R.two;
-  left_in = R.right_in;
-  right_in = R.left_in;
-  left_some = R.right_some;
-  right_some = R.left_some;
-  linkable = R.linkable;
-}
+ready_swap R = ready_two R.setting (two_swap R.two) R.known R.linkable
 
 module _ (setting : Setting) (a b : Usage) where
   merges_left : first_receives a b ≡ true → place setting a 0 b ≡ merge_mem setting a b

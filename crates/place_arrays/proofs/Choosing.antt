@@ -18,7 +18,7 @@ use Rattle.place_states.specs.States.{Pending, Next}
 use Rattle.place_states.specs.Starts.{Plain, Starts}
 use Rattle.place_states.specs.Ends.{finished_state}
 use Rattle.place_states.specs.declared.State.{State}
-use Rattle.place_states.proofs.Ending.{next_finished}
+use Rattle.place_states.proofs.Ending.{next_kept}
 use Rattle.place_states.proofs.Roots.{left_array, right_array, right_size, right_command, right_plain}
 use Rattle.place_arrays.specs.Arrays.{Fits, Longer, Meets, element_pairing, element_state}
 use Rattle.place_arrays.specs.declared.Meeting.{Meeting}
@@ -81,14 +81,7 @@ module _ (s : List ℕ) (rep : Report) (a d b : ℕ) (plain : Plain (command_in 
           → Next setting (after [] 1 (place_by_kind setting (place setting) t d u)) (ground s r lo hi rep) (nodes t + nodes u) s rep₁ a (finished_state a 1)
       go setting longer (is_array z n v) u r lo mid hi two =
           let own : argument_in s a ≡ n = two.left.1 in
-          let high = stands_le u s b r mid hi two.right in
           let other : d % n ≡ 0 → (head_of u).command ≡ 4 → (head_of u).argument ≡ n → ⊥ = λ o c k.
           longer.strides.fails refl (rw own o) (right_command two ∙ c) (array_argument u s b r mid hi two.right c ∙ k ∙ sym own) in
           rw (right_plain two setting (place setting) d plain ∙ array_conflict setting z n v d u (rw (own, right_size two) at longer.longer) other)
-          (next_finished setting (ground s r lo hi rep) _ s rep₁ a (done (array z n v) (stride_conflict n) 1) a 1 (record {
-            rank = r;
-            kept = kept_none s r lo hi;
-            stands = stands_wide (array z n v) s a r lo mid lo hi (omega arith) (omega arith) two.left;
-            pairs = refl;
-            report = rw (es ∙ own) at E;
-          }))
+          (next_kept setting two _ (stride_conflict n) (rw (es ∙ own) at E))

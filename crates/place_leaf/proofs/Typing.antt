@@ -45,13 +45,6 @@ module _ {k : ℕ} {s : List ℕ} {a b : ℕ} {r : ℕ → ℕ} {lo mid hi : ℕ
 -- whether b has a type at 0
 
 module _ {s : List ℕ} {q d : ℕ} where
-  pub types_later : (d ≡ 0 → ⊥) → TypeAt s q d None
-  types_later ne = record { is = λ u r lo hi h. go d ne u }
-    where
-      go : (n : ℕ) → (n ≡ 0 → ⊥) → (u : Usage) → type_at_zero n u ≡ nothing
-      go zero h u = absurd (h refl)
-      go (suc n) h u = refl
-
   module _ {k : Kind} (first : d ≡ 0) (x : k ≡ kind_of (command_in s q)) where
     pub types_leaf : {t : ℕ} → (k ≡ StrictlyTyped) ⊎ (k ≡ DirectAccess) → t ≡ argument_in s q → TypeAt s q d (Some t)
     types_leaf {t} l f = rw first (record {

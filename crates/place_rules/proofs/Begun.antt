@@ -14,8 +14,6 @@ use Rattle.records.specs.Records.{command_in, size_in}
 use Rattle.links.specs.Rows.{nodes_at}
 use Rattle.links.proofs.ByCommand.{IsUnused, is_unused_lem}
 use Rattle.links.proofs.Shapes.{kind_says}
-use Rattle.links.proofs.Stands.{stands_le, stands_wide}
-use Rattle.links.proofs.Frames.{kept_none}
 use Rattle.report.specs.declared.Report.{Report}
 use Rattle.report.proofs.Emitting.{emitted_nothing, kept_nothing}
 use Rattle.place_states.specs.Calls.{Two, Ready, Near, ground}
@@ -26,7 +24,7 @@ use Rattle.place_states.specs.Refusals.{number_of}
 use Rattle.place_states.specs.declared.SizeRefusal.{SizeRefusal}
 use Rattle.place_states.specs.declared.SizeRefusal.TheVariants.{Outgrown, Past32}
 use Rattle.place_states.specs.declared.State.{State}
-use Rattle.place_states.proofs.Ending.{next_finished}
+use Rattle.place_states.proofs.Ending.{next_kept}
 use Rattle.place_states.proofs.Roots.{left_size, right_size, right_unused}
 use Rattle.place_states.proofs.Room.{place_short}
 
@@ -48,15 +46,7 @@ begins_unused table s rep a d b st none e = rw e (record {
     go : (setting : Setting) {u : Usage} → IsUnused u → (t : Usage) (r : ℕ → ℕ) (lo mid hi : ℕ) → Two (length setting.table) s a b r lo mid hi t u
         → Short rep.at (after [] 1 (place_by_kind setting (place setting) t d u))
         → Next setting (after [] 1 (place_by_kind setting (place setting) t d u)) (ground s r lo hi rep) (nodes t + nodes u) s rep a (finished_state a 1)
-    go setting {u} (is_unused_lem z) t r lo mid hi two short =
-        let high = stands_le u s b r mid hi two.right in
-        next_finished setting (ground s r lo hi rep) _ s rep a _ a 1 (record {
-          rank = r;
-          kept = kept_none s r lo hi;
-          stands = stands_wide t s a r lo mid lo hi (omega arith) (omega arith) two.left;
-          pairs = omega arith;
-          report = emitted_nothing rep (omega (arith, short.0));
-        })
+    go setting (is_unused_lem z) t r lo mid hi two short = next_kept setting two _ [] (emitted_nothing rep (omega (arith, short.0)))
 
 module _ (table : Table) (s : List ℕ) (rep : Report) (a d b : ℕ) (za zb : MaxSize) (ea : size_of za ≡ size_in s a) (eb : size_of zb ≡ size_in s b) where
   -- what the placing is

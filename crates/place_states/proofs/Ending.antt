@@ -1,15 +1,17 @@
 -- A finished state stands for its goal, and a 30 with nothing behind it is taken back: its position is one past the base, any other further.
 -- Assumes nothing.
-use Rattle.std.proofs.Common.{◌≡◌, ℕ, ◌+◌, ◌^◌, ◌<◌, ◌≤◌, List, [], ◌∷◌, length, arith}
+use Rattle.std.proofs.Common.{◌≡◌, ℕ, ◌+◌, ◌^◌, ◌<◌, ◌≤◌, List, [], ◌∷◌, length, refl, arith}
 use Rattle.std.specs.Prelude.{Ok}
 use Rattle.definitions.specs.Usage.{Usage, nodes}
 use Rattle.definitions.specs.Table.{Setting}
-use Rattle.definitions.specs.Place.{Result, of_rule}
+use Rattle.definitions.specs.Place.{Result, done, of_rule}
 use Rattle.links.proofs.Chains.{chain_zero}
+use Rattle.links.proofs.Frames.{kept_none}
+use Rattle.links.proofs.Stands.{stands_le, stands_wide}
 use Rattle.report.specs.Emitted.{Emitted}
 use Rattle.report.proofs.Emitting.{emitted_back}
 use Rattle.report.specs.declared.Report.{Report}
-use Rattle.place_states.specs.Calls.{Ground, Done}
+use Rattle.place_states.specs.Calls.{Two, Ground, Done, ground}
 use Rattle.place_states.specs.Beyond.{Beyond, finish, outer}
 use Rattle.place_states.specs.States.{Standing, Next, Short, Moves}
 use Rattle.place_states.specs.Ends.{finished_state, Unheaded}
@@ -18,6 +20,19 @@ use Rattle.place_states.specs.declared.State.{State}
 module _ (setting : Setting) (g : Ground) (n : ℕ) (s : List ℕ) (rep : Report) (a : ℕ) where
   pub next_finished : (goal : Result Usage) (x p : ℕ) → Done goal g s (Ok (record { node = x; pairings = p })) rep → Next setting goal g n s rep a (finished_state x p)
   next_finished goal x p D = record { ahead = D }
+
+-- a placing that leaves its receiver as it was, with w reported
+pub next_kept : (setting : Setting) {k : ℕ} {s : List ℕ} {a b : ℕ} {r : ℕ → ℕ} {lo mid hi : ℕ} {t u : Usage} → Two k s a b r lo mid hi t u → (n : ℕ) (w : List ℕ) {rep rep' : Report} → Emitted rep w rep'
+    → Next setting (done t w 1) (ground s r lo hi rep) n s rep' a (finished_state a 1)
+next_kept setting {s} {a} {b} {r} {lo} {mid} {hi} {t} {u} two n w {rep} {rep'} E =
+    let high = stands_le u s b r mid hi two.right in
+    next_finished setting (ground s r lo hi rep) n s rep' a (done t w 1) a 1 (record {
+      rank = r;
+      kept = kept_none s r lo hi;
+      stands = stands_wide t s a r lo mid lo hi (omega arith) (omega arith) two.left;
+      pairs = refl;
+      report = E;
+    })
 
 -- a step that ends the placing: nothing comes after it
 pub moves_finished : (s : List ℕ) (rep : Report) (a : ℕ) (st : State) (s' : List ℕ) (rep' : Report) (st' : State) (x p : ℕ) → st' ≡ finished_state x p
