@@ -6,7 +6,7 @@ use Rattle.definitions.specs.Limits.{max32}
 use Rattle.definitions.specs.Usage.{Usage, nodes}
 use Rattle.definitions.specs.Table.{Setting}
 use Rattle.definitions.specs.Place.{Result, refused, place}
-use Rattle.layout.specs.declared.Table.{Table}
+use Rattle.layout.specs.declared.table.Table.{Table}
 use Rattle.layout.specs.Places.{Known}
 use Rattle.links.specs.Rows.{chain, nodes_at}
 use Rattle.place_states.specs.Calls.{Two, Ready, Near, Linkable, Ground, Done, ground, placing, merging, Placed}

@@ -3,7 +3,7 @@
 -- Assumes nothing.
 use Rattle.std.proofs.Common.{◌≡◌, ℕ, ◌+◌, ◌-◌, ◌≤◌, Bool, true, false, List, refl, sym, ◌∙◌, arith}
 use Rattle.std.specs.Prelude.{Result as Returned, Ok, Err}
-use Rattle.layout.specs.declared.Table.{Table}
+use Rattle.layout.specs.declared.table.Table.{Table}
 use Rattle.definitions.specs.If.{when◌then◌else◌}
 use Rattle.definitions.specs.Usage.{Usage, unused, leaf, map, array, none, size}
 use Rattle.definitions.specs.Command.{head_of, strictness}

@@ -28,7 +28,7 @@ use Rattle.transfer_in.specs.Loading.{itself}
 use Rattle.answers.specs.Writing.{Reached}
 use Rattle.folding.specs.Folding.{NodeReady, NodeLoaded, NextReady, of_next, NextDone, ReadOn, NextFolded, Foldable}
 use Rattle.folding.specs.declared.Folded.{Folded}
-use Rattle.layout.specs.declared.Table.{Table}
+use Rattle.layout.specs.declared.table.Table.{Table}
 use Rattle.stream.specs.declared.Span.{Span}
 use Rattle.place_states.specs.declared.SizeRefusal.{SizeRefusal}
 use Rattle.folding.proofs.Lists.{Listed, Counted, nodes_left, list_behind}

@@ -20,7 +20,7 @@ use Rattle.report.proofs.Emitting.{emitted_after, emitted_back, emitted_same, ke
 use Rattle.place_states.specs.Calls.{Two, Ready, Near, Ground, ground, Answered, Done, merging, Placed}
 use Rattle.place_states.specs.declared.SizeRefusal.{SizeRefusal}
 use Rattle.place_states.specs.declared.Merged.{Merged}
-use Rattle.layout.specs.declared.Table.{Table}
+use Rattle.layout.specs.declared.table.Table.{Table}
 use Rattle.stream.specs.declared.Span.{Span}
 use Rattle.transfer_in.specs.Loading.{itself}
 use Rattle.folding.specs.Folding.{NodeReady, NodeLoaded, Beside, NextReady, of_next, NextDone, NextFolded}

@@ -11,7 +11,7 @@ use Rattle.definitions.specs.Sound.{Storable}
 use Rattle.definitions.specs.Inner.Storable.{StorableList}
 use Rattle.links.specs.Standing.{Stands}
 use Rattle.layout.specs.Places.{Known}
-use Rattle.layout.specs.declared.Table.{Table}
+use Rattle.layout.specs.declared.table.Table.{Table}
 use Rattle.stream.specs.declared.Span.{Span}
 use Rattle.transfer_in.specs.Loading.{KeptBelow, itself}
 use Rattle.report.specs.Emitted.{Emitted, SameBuffer}

@@ -10,7 +10,7 @@ use Rattle.links.specs.Rows.{nodes_at}
 use Rattle.links.proofs.Stands.{stands_root}
 use Rattle.links.proofs.Weights.{nodes_at_lem}
 use Rattle.layout.specs.Places.{Known}
-use Rattle.layout.specs.declared.Table.{Table}
+use Rattle.layout.specs.declared.table.Table.{Table}
 use Rattle.place_states.specs.Calls.{Two, Ready, Near, Linkable}
 
 pub ready_two : {table : Table} {s : List ℕ} {a b : ℕ} (st : Setting) {r : ℕ → ℕ} {lo mid hi : ℕ} {t u : Usage} → Two (length st.table) s a b r lo mid hi t u → Known table st → Linkable s → Ready table s a b

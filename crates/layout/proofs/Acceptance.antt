@@ -20,7 +20,7 @@ use Rattle.numbers.proofs.Numbers.{number_at_lem, number_short}
 use Rattle.layout.specs.Bytes.{record_count}
 use Rattle.layout.specs.Values.{Ended}
 use Rattle.layout.specs.Places.{Places, Stand, Admitted, Room, Holds, Found, Accepted}
-use Rattle.layout.specs.declared.Table.{Table}
+use Rattle.layout.specs.declared.table.Table.{Table}
 
 -- One record more
 

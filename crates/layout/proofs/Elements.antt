@@ -14,8 +14,8 @@ use Rattle.definitions.specs.Table.{Setting, fixed_size}
 use Rattle.definitions.specs.Containment.{at_length, element_size, in_element, in_elements}
 use Rattle.layout.specs.Places.{Placed, Says}
 use Rattle.layout.specs.Containing.{size_in, InElements}
-use Rattle.layout.specs.declared.Array.{Array}
-use Rattle.layout.specs.declared.Table.{Table}
+use Rattle.layout.specs.declared.table.Array.{Array}
+use Rattle.layout.specs.declared.table.Table.{Table}
 
 module _ (n len i : ℕ) where
   with_length : (len ≡ 0 → ⊥) → element_size n len i ≡ (when ltb i len then some n else when eqb i len then at_length else nothing)

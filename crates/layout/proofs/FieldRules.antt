@@ -13,8 +13,8 @@ use Rattle.definitions.specs.Table.{Table as Layouts, Field, layout_of, is_concr
 use Rattle.numbers.specs.Words.{word}
 use Rattle.layout.specs.Bytes.{fields_at}
 use Rattle.layout.specs.Places.{Placed, Says, Stand, Earlier, FieldsAdmitted}
-use Rattle.layout.specs.declared.FieldList.{FieldList}
-use Rattle.layout.specs.declared.Table.{Table}
+use Rattle.layout.specs.declared.table.FieldList.{FieldList}
+use Rattle.layout.specs.declared.table.Table.{Table}
 use Rattle.layout.proofs.Fields.{fields_next}
 use Rattle.layout.proofs.Types.{concrete_below}
 

@@ -11,14 +11,14 @@ use Rattle.definitions.specs.Table.{Table as Layouts, Setting, concrete, layout_
 use Rattle.layout.specs.Values.{parts_of, layout_in, Formed, FormedParts}
 use Rattle.layout.specs.Places.{Places, InTable, LayoutIs}
 use Rattle.layout.specs.Containing.{containing_from, Next, From, InElements, FieldType, FieldsInTable, InFields, Finds}
-use Rattle.layout.specs.declared.Components.{Components}
-use Rattle.layout.specs.declared.Components.TheVariants.{Elements, Fields}
-use Rattle.layout.specs.declared.TypeLayout.{TypeLayout}
-use Rattle.layout.specs.declared.TypeLayout.TheVariants.{Concrete}
-use Rattle.layout.specs.declared.Array.{Array}
-use Rattle.layout.specs.declared.Component.{Component}
-use Rattle.layout.specs.declared.FieldList.{FieldList}
-use Rattle.layout.specs.declared.Table.{Table}
+use Rattle.layout.specs.declared.table.Components.{Components}
+use Rattle.layout.specs.declared.table.Components.TheVariants.{Elements, Fields}
+use Rattle.layout.specs.declared.table.TypeLayout.{TypeLayout}
+use Rattle.layout.specs.declared.table.TypeLayout.TheVariants.{Concrete}
+use Rattle.layout.specs.declared.table.Array.{Array}
+use Rattle.layout.specs.declared.containment.Component.{Component}
+use Rattle.layout.specs.declared.table.FieldList.{FieldList}
+use Rattle.layout.specs.declared.table.Table.{Table}
 use Rattle.layout.proofs.Parts.{first_in_lem, field_concrete}
 
 -- The layout of a type was found to be v, with these components.

@@ -13,9 +13,9 @@ use Rattle.numbers.specs.Words.{word}
 use Rattle.layout.specs.Bytes.{fields_at}
 use Rattle.layout.specs.Places.{Placed}
 use Rattle.layout.specs.Containing.{containing_from, Contains, FieldType, InFields}
-use Rattle.layout.specs.declared.Field.{Field}
-use Rattle.layout.specs.declared.FieldList.{FieldList}
-use Rattle.layout.specs.declared.Table.{Table}
+use Rattle.layout.specs.declared.table.Field.{Field}
+use Rattle.layout.specs.declared.table.FieldList.{FieldList}
+use Rattle.layout.specs.declared.table.Table.{Table}
 use Rattle.layout.proofs.Fields.{fields_from, fields_next}
 
 -- The fields from i on

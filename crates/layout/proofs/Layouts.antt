@@ -9,11 +9,11 @@ use Rattle.definitions.specs.Stream.{read}
 use Rattle.definitions.specs.Table.{TypeLayout as Layout, read_layout}
 use Rattle.numbers.specs.Words.{number_at, word}
 use Rattle.layout.specs.Values.{layout_in, Formed, Whole, Reads}
-use Rattle.layout.specs.declared.Array.{Array}
-use Rattle.layout.specs.declared.Components.TheVariants.{Scalar, Elements, Fields}
-use Rattle.layout.specs.declared.FieldList.{FieldList}
-use Rattle.layout.specs.declared.TypeLayout.{TypeLayout}
-use Rattle.layout.specs.declared.TypeLayout.TheVariants.{Concrete, Handle, Failed}
+use Rattle.layout.specs.declared.table.Array.{Array}
+use Rattle.layout.specs.declared.table.Components.TheVariants.{Scalar, Elements, Fields}
+use Rattle.layout.specs.declared.table.FieldList.{FieldList}
+use Rattle.layout.specs.declared.table.TypeLayout.{TypeLayout}
+use Rattle.layout.specs.declared.table.TypeLayout.TheVariants.{Concrete, Handle, Failed}
 use Rattle.layout.proofs.Ends.{handle_read, failed_read, scalar_read, elements_read, list_read}
 use Rattle.layout.proofs.View.{each_kind}
 

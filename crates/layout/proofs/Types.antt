@@ -10,7 +10,7 @@ use borrow.Author.Tests.{not-false}
 use Rattle.definitions.specs.Table.{Table as Layouts, failed, layout_of, is_concrete}
 use Rattle.layout.specs.Values.{Whole}
 use Rattle.layout.specs.Places.{InTable, Stand, Earlier}
-use Rattle.layout.specs.declared.Table.{Table}
+use Rattle.layout.specs.declared.table.Table.{Table}
 
 -- a type that is not among them is not concrete there
 pub concrete_in : (ls : Layouts) (ty : ℕ) → is_concrete (layout_of ls ty) ≡ true → ty < length ls

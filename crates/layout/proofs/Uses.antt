@@ -5,24 +5,19 @@ use Prim.Native.Nat.{ℕ, ◌<◌}
 use native.Mathlib.Omega.{arith}
 use mathlib.Core.Path.{◌≡◌, refl}
 use mathlib.Core.List.{List}
-use lib.ListN.{take}
-use lib.Seq.{take-take}
 use Rattle.std.specs.Prelude.{Option, Some}
 use Rattle.definitions.specs.Table.{Setting, Components, scalar, elements, fields}
 use Rattle.definitions.specs.Containment.{containing}
 use Rattle.layout.specs.Places.{Known, InTable, Holds, Found}
 use Rattle.layout.specs.Containing.{containing_from, Finds}
-use Rattle.layout.specs.declared.Component.{Component}
-use Rattle.layout.specs.declared.Table.{Table}
+use Rattle.layout.specs.declared.containment.Component.{Component}
+use Rattle.layout.specs.declared.table.Table.{Table}
 
--- The table that was accepted, over its places, whole or the first n
+-- The table that was accepted, over its places
 
 module _ {t : Table} {s places : List ℕ} {n : ℕ} where
   pub holds_whole : t.bytes.now ≡ s → t.places.now ≡ places → Holds t s places n
   holds_whole e f = record { bytes = e; first = rw f }
-
-  pub holds_first : t.bytes.now ≡ s → t.places.now ≡ take n places → Holds t s places n
-  holds_first e f = record { bytes = e; first = rw f (take-take n n places (omega arith)) }
 
   pub known : (f : Found s places n) → Holds t s places n → Known t (record { table = f.layouts })
   known f h = record { read = rw h.bytes f.is; placed = f.placed t h }
@@ -34,9 +29,6 @@ module _ {t : Table} {ty from s e : ℕ} {r : Option Component} {c : Component} 
   -- so that asking a component ends
   pub component_below : c.ty < ty
   component_below = rw y at f.earlier
-
-  pub component_type : InTable t ty → InTable t c.ty
-  component_type w = record { layouts = w.layouts; placed = w.placed; below = omega (arith, w.below, component_below) }
 
 pub from_start : (st : Setting) (cs : Components) (s e : ℕ) → containing st cs s e ≡ containing_from st cs s e 0
 from_start st scalar s e = refl

@@ -7,11 +7,11 @@ use Rattle.definitions.specs.Containment.{Inside, in_elements, in_fields}
 use Rattle.numbers.specs.Words.{word}
 use Rattle.layout.specs.Bytes.{fields_at}
 use Rattle.layout.specs.Places.{Placed, Places, InTable}
-use Rattle.layout.specs.declared.Array.{Array}
-use Rattle.layout.specs.declared.Component.{Component}
-use Rattle.layout.specs.declared.Field.{Field}
-use Rattle.layout.specs.declared.FieldList.{FieldList}
-use Rattle.layout.specs.declared.Table.{Table}
+use Rattle.layout.specs.declared.table.Array.{Array}
+use Rattle.layout.specs.declared.containment.Component.{Component}
+use Rattle.layout.specs.declared.table.Field.{Field}
+use Rattle.layout.specs.declared.table.FieldList.{FieldList}
+use Rattle.layout.specs.declared.table.Table.{Table}
 
 abbrev pub size_in : Option ℕ → Maybe ℕ
 size_in (Some n) = some n

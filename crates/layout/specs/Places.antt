@@ -7,9 +7,9 @@ use Rattle.definitions.specs.Stream.{read}
 use Rattle.definitions.specs.Table.{Table as Layouts, Setting, TypeLayout as Layout, layout_of, is_concrete, read_layout, fields_admitted, admitted, table_of}
 use Rattle.layout.specs.Bytes.{record_count, fields_at}
 use Rattle.layout.specs.Values.{layout_in, Formed}
-use Rattle.layout.specs.declared.FieldList.{FieldList}
-use Rattle.layout.specs.declared.Table.{Table}
-use Rattle.layout.specs.declared.TypeLayout.{TypeLayout}
+use Rattle.layout.specs.declared.table.FieldList.{FieldList}
+use Rattle.layout.specs.declared.table.Table.{Table}
+use Rattle.layout.specs.declared.table.TypeLayout.{TypeLayout}
 
 -- record ty of ls stands in the table t at the place that is kept for it, and the records before it admit it
 pub record Placed (t : Table) (ls : Layouts) (ty : ℕ) : Type 0 where

@@ -4,10 +4,10 @@ use Rattle.std.specs.Prelude.{ℕ, ◌+◌, ◌*◌, ◌≤◌, ◌<◌, ◌≡�
 use Rattle.definitions.specs.Stream.{broken, read}
 use Rattle.definitions.specs.Table.{Components as Parts, scalar, elements, fields, TypeLayout as Layout, concrete, handle, failed, read_layout}
 use Rattle.layout.specs.Bytes.{fields_at}
-use Rattle.layout.specs.declared.Components.{Components}
-use Rattle.layout.specs.declared.Components.TheVariants.{Scalar, Elements, Fields}
-use Rattle.layout.specs.declared.TypeLayout.{TypeLayout}
-use Rattle.layout.specs.declared.TypeLayout.TheVariants.{Concrete, Handle, Failed}
+use Rattle.layout.specs.declared.table.Components.{Components}
+use Rattle.layout.specs.declared.table.Components.TheVariants.{Scalar, Elements, Fields}
+use Rattle.layout.specs.declared.table.TypeLayout.{TypeLayout}
+use Rattle.layout.specs.declared.table.TypeLayout.TheVariants.{Concrete, Handle, Failed}
 
 abbrev pub parts_of : List ℕ → Components → Parts
 parts_of s Scalar = scalar

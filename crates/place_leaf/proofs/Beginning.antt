@@ -16,7 +16,7 @@ use Rattle.links.proofs.Stands.{stands_le, stands_marks, stands_wide}
 use Rattle.links.proofs.Frames.{kept_marks, kept_set, kept_trans, kept_widen}
 use Rattle.links.proofs.Changes.{stands_type}
 use Rattle.layout.specs.Places.{Known}
-use Rattle.layout.specs.declared.Table.{Table}
+use Rattle.layout.specs.declared.table.Table.{Table}
 use Rattle.qptr.specs.Values.{command_of, kind_of}
 use Rattle.qptr.specs.declared.Kind.{Kind}
 use Rattle.report.specs.Emitted.{Emitted}

@@ -16,7 +16,7 @@ use Rattle.definitions.specs.Sound.{Storable}
 use Rattle.records.specs.Records.{argument_in}
 use Rattle.links.specs.Standing.{Stands}
 use Rattle.layout.specs.Places.{Known}
-use Rattle.layout.specs.declared.Table.{Table}
+use Rattle.layout.specs.declared.table.Table.{Table}
 use Rattle.place_states.specs.Calls.{Two}
 use Rattle.std.proofs.lemmas.Bool.{both_ways}
 use Rattle.support.specs.Answers.{Answers}

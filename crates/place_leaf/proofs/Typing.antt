@@ -18,7 +18,7 @@ use Rattle.qptr.specs.declared.Kind.TheVariants.{Unused, StrictlyTyped, DirectAc
 use Rattle.records.specs.Records.{command_in, argument_in}
 use Rattle.links.specs.Standing.{Stands}
 use Rattle.links.proofs.Stands.{stands_root}
-use Rattle.layout.specs.declared.Table.{Table}
+use Rattle.layout.specs.declared.table.Table.{Table}
 use Rattle.support_memory.proofs.Roots.{command_of_kind}
 use Rattle.place_states.specs.Calls.{Two, Ready}
 use Rattle.place_states.proofs.Roots.{left_command}

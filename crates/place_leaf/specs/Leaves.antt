@@ -8,7 +8,7 @@ use Rattle.definitions.specs.Place.{type_at_zero, Kept as KeptType, kept_type, t
 use Rattle.qptr.specs.declared.Kind.{Kind}
 use Rattle.qptr.specs.declared.Kind.TheVariants.{StrictlyTyped, DirectAccess}
 use Rattle.layout.specs.Places.{Known}
-use Rattle.layout.specs.declared.Table.{Table}
+use Rattle.layout.specs.declared.table.Table.{Table}
 use Rattle.place_states.specs.Calls.{Two}
 use Rattle.support.specs.Answers.{OfEach}
 use Rattle.support.specs.declared.NotAsked.{NotAsked}

@@ -6,7 +6,7 @@ use Rattle.definitions.specs.Usage.{Usage, nodes}
 use Rattle.definitions.specs.Table.{Setting}
 use Rattle.definitions.specs.Place.{Result, refused, after, size_refusal, unless_refused, place_by_kind, place}
 use Rattle.definitions.proofs.PlaceFuel.{place_is}
-use Rattle.layout.specs.declared.Table.{Table}
+use Rattle.layout.specs.declared.table.Table.{Table}
 use Rattle.qptr.specs.Values.{size_of, command_of, kind_of}
 use Rattle.qptr.specs.declared.Kind.{Kind}
 use Rattle.qptr.specs.declared.MaxSize.{MaxSize}

@@ -8,7 +8,7 @@ use Rattle.definitions.specs.Table.{Setting}
 use Rattle.links.specs.Rows.{nodes_at}
 use Rattle.links.proofs.Stands.{stands_root}
 use Rattle.links.proofs.Weights.{nodes_at_lem}
-use Rattle.layout.specs.declared.Table.{Table}
+use Rattle.layout.specs.declared.table.Table.{Table}
 use Rattle.layout.specs.Places.{Known}
 use Rattle.report.specs.declared.Report.{Report}
 use Rattle.place_states.specs.Calls.{Two, Linkable, Ready}

@@ -8,7 +8,7 @@ use Rattle.definitions.specs.Place.{Result, refused, done, place, merge_mem}
 use Rattle.definitions.specs.Sound.{Storable}
 use Rattle.links.specs.Standing.{Stands}
 use Rattle.links.specs.Frames.{Kept}
-use Rattle.layout.specs.declared.Table.{Table}
+use Rattle.layout.specs.declared.table.Table.{Table}
 use Rattle.layout.specs.Places.{Known}
 use Rattle.report.specs.Emitted.{Emitted, SameBuffer}
 use Rattle.report.specs.declared.Report.{Report}

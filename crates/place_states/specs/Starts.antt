@@ -4,7 +4,7 @@ use Rattle.std.specs.Prelude.{◌≡◌, ℕ, ◌+◌, List, [], length, ◌≢�
 use Rattle.definitions.specs.Usage.{Usage, nodes}
 use Rattle.definitions.specs.Table.{Setting}
 use Rattle.definitions.specs.Place.{Result, refused, after, place_by_kind, place}
-use Rattle.layout.specs.declared.Table.{Table}
+use Rattle.layout.specs.declared.table.Table.{Table}
 use Rattle.layout.specs.Places.{Known}
 use Rattle.report.specs.Emitted.{SameBuffer}
 use Rattle.report.specs.declared.Report.{Report}

@@ -19,7 +19,7 @@ use Rattle.definitions.proofs.ReadsBack.{list_storable}
 use Rattle.stream.specs.Found.{all_bound, told}
 use Rattle.stream.specs.declared.Found.{Found}
 use Rattle.layout.specs.Places.{Holds}
-use Rattle.layout.specs.declared.Table.{Table}
+use Rattle.layout.specs.declared.table.Table.{Table}
 use Rattle.layout.proofs.Uses.{known as known_table}
 use Rattle.report.specs.declared.Report.{Report}
 use Rattle.place_states.specs.declared.SizeRefusal.{SizeRefusal}

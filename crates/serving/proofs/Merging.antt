@@ -20,7 +20,7 @@ use Rattle.stream.specs.Found.{top_bound, told}
 use Rattle.stream.specs.declared.Found.{Found}
 use Rattle.std.specs.Prelude.{Option, Result as Returned, Err}
 use Rattle.layout.specs.Places.{Holds}
-use Rattle.layout.specs.declared.Table.{Table}
+use Rattle.layout.specs.declared.table.Table.{Table}
 use Rattle.layout.proofs.Uses.{known as known_table}
 use Rattle.inputs.specs.Inputs.{Good, Met}
 use Rattle.inputs.specs.Tops.{OpaqueFirst, Conflicts}

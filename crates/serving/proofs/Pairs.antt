@@ -22,7 +22,7 @@ use Rattle.stream.specs.Found.{type_bound}
 use Rattle.stream.specs.declared.Found.{Found}
 use Rattle.std.specs.Prelude.{Option, Result as Returned}
 use Rattle.layout.specs.Places.{Holds}
-use Rattle.layout.specs.declared.Table.{Table}
+use Rattle.layout.specs.declared.table.Table.{Table}
 use Rattle.layout.proofs.Uses.{known as known_table}
 use Rattle.report.specs.Emitted.{SameBuffer}
 use Rattle.report.specs.declared.Report.{Report}

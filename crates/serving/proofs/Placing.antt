@@ -24,7 +24,7 @@ use Rattle.answers.proofs.Giving.{gives_kept}
 use Rattle.inputs.proofs.Accepting.{body, refused_by, Going, goes_on}
 use Rattle.serving.specs.Loaded.{Pair, PairGiven}
 use Rattle.layout.specs.Places.{Holds}
-use Rattle.layout.specs.declared.Table.{Table}
+use Rattle.layout.specs.declared.table.Table.{Table}
 use Rattle.layout.proofs.Uses.{known as known_table}
 use Rattle.serving.proofs.Memories.{told_memory}
 use Rattle.serving.proofs.Pairs.{usable}

@@ -17,7 +17,7 @@ use Rattle.definitions.specs.Support.{supports, supports_in}
 use Rattle.definitions.specs.Place.{done, place, place_in, merge_mem, fold}
 use Rattle.definitions.specs.Calls.{fold_call}
 use Rattle.layout.specs.Places.{Placed}
-use Rattle.layout.specs.declared.Table.{Table as Lent}
+use Rattle.layout.specs.declared.table.Table.{Table as Lent}
 use Rattle.folding.specs.Folding.{FoldReady}
 
 -- types 0 and 1 are scalars of 4 bytes

@@ -21,7 +21,7 @@ use Rattle.definitions.specs.Place.{done}
 use Rattle.definitions.specs.Support.{supports}
 use Rattle.definitions.specs.Calls.{refuse_if, refusal, said, supports_call}
 use Rattle.layout.specs.Places.{InTable, Holds, Says}
-use Rattle.layout.specs.declared.Table.{Table}
+use Rattle.layout.specs.declared.table.Table.{Table}
 use Rattle.layout.proofs.Uses.{known, table_type}
 use Rattle.transfer_in.specs.Loading.{Loaded, itself}
 use Rattle.support.specs.Known.{Askable}

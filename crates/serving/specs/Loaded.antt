@@ -9,7 +9,7 @@ use Rattle.definitions.specs.Place.{Result, under, fold}
 use Rattle.definitions.specs.Sound.{Storable}
 use Rattle.definitions.specs.Calls.{written}
 use Rattle.layout.specs.Places.{Known}
-use Rattle.layout.specs.declared.Table.{Table}
+use Rattle.layout.specs.declared.table.Table.{Table}
 use Rattle.answers.specs.Writing.{Gives}
 use Rattle.answers.specs.declared.Refusal.{Refusal}
 use Rattle.answers.specs.declared.Written.{Written}

@@ -8,10 +8,10 @@ use Rattle.std.specs.Prelude.{Ok, Err}
 use Rattle.definitions.specs.If.{when◌then◌else◌}
 use Rattle.definitions.specs.Place.{Kept, asked}
 use Rattle.layout.specs.Places.{LayoutIs}
-use Rattle.layout.specs.declared.Components.{Components}
-use Rattle.layout.specs.declared.TypeLayout.{TypeLayout}
-use Rattle.layout.specs.declared.TypeLayout.TheVariants.{Concrete, Handle as IsHandle, Failed as HasFailed}
-use Rattle.layout.specs.declared.Table.{Table}
+use Rattle.layout.specs.declared.table.Components.{Components}
+use Rattle.layout.specs.declared.table.TypeLayout.{TypeLayout}
+use Rattle.layout.specs.declared.table.TypeLayout.TheVariants.{Concrete, Handle as IsHandle, Failed as HasFailed}
+use Rattle.layout.specs.declared.table.Table.{Table}
 use Rattle.support.specs.Answers.{Supports, kept_by, Answers}
 use Rattle.support.proofs.Types.{layout_is}
 use Rattle.support.specs.declared.NotAsked.TheVariants.{Handle, Failed}

@@ -15,8 +15,8 @@ use Rattle.definitions.specs.Support.{any_of, component_supports, supports}
 use Rattle.records.specs.Records.{size_in}
 use Rattle.layout.specs.Places.{Known}
 use Rattle.layout.specs.Containing.{containing_from, Next, Finds}
-use Rattle.layout.specs.declared.Component.{Component}
-use Rattle.layout.specs.declared.Table.{Table}
+use Rattle.layout.specs.declared.containment.Component.{Component}
+use Rattle.layout.specs.declared.table.Table.{Table}
 use Rattle.layout.proofs.Uses.{component_below, from_start}
 use Rattle.support.specs.Known.{ConcreteAskable}
 use Rattle.support.specs.Answers.{OfEach, InLayout, Supports, ComponentSupports}

@@ -11,8 +11,8 @@ use Rattle.records.specs.Records.{size_in, argument_in, child_in}
 use Rattle.links.specs.Standing.{Stands}
 use Rattle.support.specs.Answers.{Supports, ElementsSupported}
 use Rattle.support_memory.proofs.Roots.{size_is}
-use Rattle.layout.specs.declared.Array.{Array}
-use Rattle.layout.specs.declared.Table.{Table}
+use Rattle.layout.specs.declared.table.Array.{Array}
+use Rattle.layout.specs.declared.table.Table.{Table}
 
 module _ (s : List ℕ) (q : ℕ) (z : Size) (n : ℕ) (e : Usage) (r : ℕ → ℕ) (lo hi : ℕ) (a : Stands (array z n e) s q r lo hi) where
   stride_is : argument_in s q ≡ n

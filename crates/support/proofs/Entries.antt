@@ -13,7 +13,7 @@ use Rattle.links.proofs.Rows.{Head, head, end_0}
 use Rattle.support_memory.proofs.Linked.{Linked, entry_usage}
 use Rattle.support.specs.Known.{ConcreteAskable}
 use Rattle.support.specs.Answers.{InLayout, EntrySupported, EntriesSupported}
-use Rattle.layout.specs.declared.Table.{Table}
+use Rattle.layout.specs.declared.table.Table.{Table}
 
 -- what is said of all entries is said of those that are left
 abbrev pub Same : Table → ℕ → ℕ → Entries → Entries → Type 0

@@ -17,11 +17,11 @@ use Rattle.records.specs.Records.{command_in}
 use Rattle.links.specs.Standing.{Stands}
 use Rattle.layout.specs.Places.{Known}
 use Rattle.layout.specs.Values.{parts_of}
-use Rattle.layout.specs.declared.Components.{Components}
-use Rattle.layout.specs.declared.Components.TheVariants.{Scalar, Elements, Fields}
-use Rattle.layout.specs.declared.Array.{Array}
-use Rattle.layout.specs.declared.FieldList.{FieldList}
-use Rattle.layout.specs.declared.Table.{Table}
+use Rattle.layout.specs.declared.table.Components.{Components}
+use Rattle.layout.specs.declared.table.Components.TheVariants.{Scalar, Elements, Fields}
+use Rattle.layout.specs.declared.table.Array.{Array}
+use Rattle.layout.specs.declared.table.FieldList.{FieldList}
+use Rattle.layout.specs.declared.table.Table.{Table}
 use Rattle.layout.proofs.Finding.{some_stride, element_below}
 use Rattle.support.specs.Known.{Askable, ComponentsOf}
 use Rattle.support.specs.Answers.{EntriesSupported, ElementsSupported, ItselfSupports}

@@ -13,7 +13,7 @@ use Rattle.definitions.specs.Table.{Setting, Components as Parts}
 use Rattle.definitions.specs.Support.{component_supports, entry_supported, supports}
 use Rattle.records.specs.Records.{offset_in}
 use Rattle.support.specs.Answers.{Supports, ComponentSupports, EntrySupported, Says}
-use Rattle.layout.specs.declared.Table.{Table}
+use Rattle.layout.specs.declared.table.Table.{Table}
 
 module _ (st : Setting) (ty : ℕ) (cs : Parts) (u : Usage) where
   past_32_bits : (n : ℕ) → max32 < n → false ≡ entry_supported st (supports st) ty cs n u

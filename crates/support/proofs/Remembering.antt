@@ -21,7 +21,7 @@ use Rattle.support.specs.Known.{TypeKnown}
 use Rattle.support.specs.Answers.{Supports}
 use Rattle.support.specs.Memory.{Recalls, Listed, Memory, Kept}
 use Rattle.support.proofs.Staying.{supports_after}
-use Rattle.layout.specs.declared.Table.{Table}
+use Rattle.layout.specs.declared.table.Table.{Table}
 
 no_tag : (ty : ℕ) (b : Bool) → 0 ≡ tag_of ty b → ⊥
 no_tag ty true e = omega arith

@@ -14,9 +14,9 @@ use Rattle.records.specs.Records.{command_in, size_in}
 use Rattle.links.specs.Standing.{Stands}
 use Rattle.layout.specs.Values.{parts_of, layout_in}
 use Rattle.layout.specs.Places.{Known, LayoutIs}
-use Rattle.layout.specs.declared.Components.{Components}
-use Rattle.layout.specs.declared.TypeLayout.{TypeLayout}
-use Rattle.layout.specs.declared.TypeLayout.TheVariants.{Concrete, Handle, Failed}
+use Rattle.layout.specs.declared.table.Components.{Components}
+use Rattle.layout.specs.declared.table.TypeLayout.{TypeLayout}
+use Rattle.layout.specs.declared.table.TypeLayout.TheVariants.{Concrete, Handle, Failed}
 use Rattle.qptr.specs.Values.{kind_of}
 use Rattle.qptr.specs.declared.Kind.{Kind}
 use Rattle.qptr.specs.declared.Kind.TheVariants.{Unused}
@@ -24,7 +24,7 @@ use Rattle.qptr.specs.contracts.Kind.{the_type}
 use denote.Enum.Bare.{sameb, same_true, same_false}
 use Rattle.std.proofs.Common.{rules}
 use Rattle.support.specs.Known.{Askable}
-use Rattle.layout.specs.declared.Table.{Table}
+use Rattle.layout.specs.declared.table.Table.{Table}
 use Rattle.std.proofs.lemmas.Bool.{both_ways}
 use Rattle.support.specs.Answers.{WholeLeaf, Supports, ComponentSupports, ItselfSupports}
 use Rattle.support.specs.Memory.{LeftOpen}

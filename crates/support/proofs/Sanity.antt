@@ -13,7 +13,7 @@ use Rattle.definitions.specs.Support.{supports, supports_in}
 use Rattle.numbers.specs.Words.{number_at}
 use Rattle.links.specs.Standing.{Stands}
 use Rattle.layout.specs.Places.{Placed}
-use Rattle.layout.specs.declared.Table.{Table}
+use Rattle.layout.specs.declared.table.Table.{Table}
 use Rattle.support.specs.Known.{Askable}
 
 -- type 0 is a scalar of 4 bytes, and type 1 four of them in a row

@@ -12,7 +12,7 @@ use Rattle.support.specs.Known.{Askable, ConcreteAskable}
 use Rattle.support.specs.Answers.{Supports, EntrySupported, ItselfSupports, Answers}
 use Rattle.support.specs.Memory.{LeftOpen}
 use Rattle.support.specs.declared.NotAsked.{NotAsked}
-use Rattle.layout.specs.declared.Table.{Table}
+use Rattle.layout.specs.declared.table.Table.{Table}
 
 module _ {s s' : List ℕ} (U : Unchanged s s') where
   module _ {table : Table} {ty at q : ℕ} where

@@ -14,10 +14,10 @@ use Rattle.definitions.proofs.Earlier.{accepted}
 use Rattle.definitions.proofs.Support.{supports_is}
 use Rattle.layout.specs.Values.{parts_of, layout_in}
 use Rattle.layout.specs.Places.{Known, InTable, LayoutIs}
-use Rattle.layout.specs.declared.Components.{Components}
-use Rattle.layout.specs.declared.TypeLayout.{TypeLayout}
-use Rattle.layout.specs.declared.TypeLayout.TheVariants.{Concrete, Handle, Failed}
-use Rattle.layout.specs.declared.Table.{Table}
+use Rattle.layout.specs.declared.table.Components.{Components}
+use Rattle.layout.specs.declared.table.TypeLayout.{TypeLayout}
+use Rattle.layout.specs.declared.table.TypeLayout.TheVariants.{Concrete, Handle, Failed}
+use Rattle.layout.specs.declared.table.Table.{Table}
 use Rattle.std.proofs.lemmas.Bool.{both_ways}
 use Rattle.support.specs.Known.{TypeKnown, ConcreteType, Askable, ConcreteAskable, ComponentsOf}
 

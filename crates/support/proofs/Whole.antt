@@ -10,7 +10,7 @@ use Rattle.support.specs.Answers.{Supports, ComponentSupports, ItselfSupports, S
 use Rattle.support.specs.Memory.{LeftOpen}
 use Rattle.support.proofs.Types.{asks_concrete}
 use Rattle.support.proofs.Rules.{part_supported, itself_asked}
-use Rattle.layout.specs.declared.Table.{Table}
+use Rattle.layout.specs.declared.table.Table.{Table}
 
 module _ {table : Table} {ty : ℕ} {s : List ℕ} {q : ℕ} where
   pub asks_either : {at : ℕ} (whole : Bool) → Askable table ty s q → (whole ≡ true → LeftOpen table ty at s q) →

@@ -9,8 +9,8 @@ use Rattle.definitions.specs.Place.{Kept, handle_conflict, failed_conflict, aske
 use Rattle.records.specs.Records.{offset_in}
 use Rattle.links.specs.Standing.{Stands}
 use Rattle.layout.specs.Places.{Known}
-use Rattle.layout.specs.declared.Array.{Array}
-use Rattle.layout.specs.declared.Table.{Table}
+use Rattle.layout.specs.declared.table.Array.{Array}
+use Rattle.layout.specs.declared.table.Table.{Table}
 use Rattle.support.specs.declared.NotAsked.{NotAsked}
 use Rattle.support.specs.declared.NotAsked.TheVariants.{Handle, Failed}
 

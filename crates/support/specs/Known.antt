@@ -3,9 +3,9 @@
 use Rattle.std.specs.Prelude.{ℕ, ◌<◌, ◌≡◌, List, length}
 use Rattle.definitions.specs.Table.{Setting, Components as Parts, concrete, layout_of}
 use Rattle.layout.specs.Places.{Known, LayoutIs}
-use Rattle.layout.specs.declared.Components.{Components}
-use Rattle.layout.specs.declared.TypeLayout.TheVariants.{Concrete}
-use Rattle.layout.specs.declared.Table.{Table}
+use Rattle.layout.specs.declared.table.Components.{Components}
+use Rattle.layout.specs.declared.table.TypeLayout.TheVariants.{Concrete}
+use Rattle.layout.specs.declared.table.Table.{Table}
 use Rattle.support_memory.specs.Nodes.{UsageAt}
 
 -- there is a setting whose table the bytes are, and the type is one of it

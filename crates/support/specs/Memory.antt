@@ -4,8 +4,8 @@ use Rattle.std.specs.Prelude.{ℕ, ◌<◌, ◌≡◌, Bool, ◌||◌, List}
 use Rattle.definitions.specs.Support.{component_supports, itself, supports}
 use Rattle.records.specs.Records.{command_in, tag_in, past_in}
 use Rattle.layout.specs.Values.{parts_of}
-use Rattle.layout.specs.declared.Components.{Components}
-use Rattle.layout.specs.declared.Table.{Table}
+use Rattle.layout.specs.declared.table.Components.{Components}
+use Rattle.layout.specs.declared.table.Table.{Table}
 use Rattle.support_memory.specs.Nodes.{Unchanged, Below}
 use Rattle.support_memory.specs.Memory.{tag_of, In}
 use Rattle.support_memory.specs.declared.Answer.{Answer}

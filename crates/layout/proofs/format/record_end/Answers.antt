@@ -1,7 +1,7 @@
 -- Each kind has its length; any other byte is no kind.
 use borrow.Author.Rules.{rules}
 use Rattle.layout.proofs.Ends.{no_kind, lone_ends, scalar_ends}
-use Rattle.layout.proofs.record_end.Goals as goal
+use Rattle.layout.proofs.format.record_end.Goals as goal
 
 pub returns-in-35 : goal.returns-in-35
 returns-in-35 c = let l = c.in_ok-get.ensures.lookup in let k = l.3.1 0 in search (lone_ends, rules)

@@ -1,7 +1,7 @@
 -- Fields that are cut off, or more than 64, are no record; others end after the last of them.
 use borrow.Author.Rules.{rules}
 use Rattle.layout.proofs.Ends.{no_fields, fields_ends}
-use Rattle.layout.proofs.fields_end.Goals as goal
+use Rattle.layout.proofs.format.fields_end.Goals as goal
 
 pub returns-in_err-end_after : goal.returns-in_err-end_after
 returns-in_err-end_after c = let h = c.in_err-end_after.ensures in rw c.from_residual.ensures (search (no_fields, rules))

@@ -2,7 +2,7 @@
 use native.Mathlib.Omega.{arith}
 use borrow.Author.Rules.{rules}
 use Rattle.layout.proofs.Ends.{no_elements, elements_ends}
-use Rattle.layout.proofs.elements_end.Goals as goal
+use Rattle.layout.proofs.format.elements_end.Goals as goal
 
 pub returns-in_err-end : goal.returns-in_err-end
 returns-in_err-end c = let h = c.in_err-end.ensures in rw c.from_residual.ensures (search (no_elements, rules))

@@ -1,7 +1,7 @@
 -- The invariant: no field from `from` to i contains the range, so the list is that from i on.
 use borrow.Author.Rules.{rules}
 use Rattle.layout.proofs.InFields.{from_here, next_contains, this_contains}
-use Rattle.layout.proofs.Table.in_fields.Goals as goal
+use Rattle.layout.proofs.table.Table.in_fields.Goals as goal
 
 pub loop-i-init : goal.loop-i-init
 loop-i-init c = from_here

@@ -2,7 +2,7 @@
 use native.Mathlib.Omega.{arith}
 use borrow.Author.Rules.{rules}
 use Rattle.layout.proofs.Layouts.{held, reads_handle, reads_failed, reads_scalar, reads_elements, reads_fields}
-use Rattle.layout.proofs.layout_at.Goals as goal
+use Rattle.layout.proofs.format.layout_at.Goals as goal
 
 pub returns-in-35 : goal.returns-in-35
 returns-in-35 c = search (reads_handle, rules)

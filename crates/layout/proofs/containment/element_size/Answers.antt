@@ -1,8 +1,8 @@
 -- The tests are the definition's, in its order.
 use borrow.Author.Rules.{rules}
 use Rattle.layout.proofs.Elements.{no_length, below_length, at_length_lem, above_length}
-use Rattle.layout.proofs.element_size.Goals as goal
-use Rattle.layout.proofs.element_size.Goals.{then-len-eq0-via-then-len-eq0, then-len-eq0-via-else-len-eq0+then-index-len}
+use Rattle.layout.proofs.containment.element_size.Goals as goal
+use Rattle.layout.proofs.containment.element_size.Goals.{then-len-eq0-via-then-len-eq0, then-len-eq0-via-else-len-eq0+then-index-len}
 
 pub returns-then-len-eq0 : goal.returns-then-len-eq0
 returns-then-len-eq0 c =

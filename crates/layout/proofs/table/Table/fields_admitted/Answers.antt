@@ -1,7 +1,7 @@
 -- The invariant: what is left to be said of all fields is what is to be said of those from i on.
 use borrow.Author.Rules.{rules}
 use Rattle.layout.proofs.FieldRules.{no_component, too_early, past_32_bits, last_field, next_field}
-use Rattle.layout.proofs.Table.fields_admitted.Goals as goal
+use Rattle.layout.proofs.table.Table.fields_admitted.Goals as goal
 
 pub returns-then-not-is_earlier : goal.returns-then-not-is_earlier
 returns-then-not-is_earlier c = search (no_component, rules)
