@@ -14,9 +14,9 @@ use Rattle.qptr.specs.Values.{part_of}
 use Rattle.stream.specs.Head.{head, PartAt}
 use Rattle.stream.specs.Found.{type_bound, NodeAt}
 use Rattle.stream.specs.Walk.{level, Sum, sum, owing, pending, Stands, entries_of, own_bound, Owes, Goes}
-use Rattle.stream.specs.Window.{levels, Held, Entered, Enters}
-use Rattle.stream.specs.declared.Maps.{Maps}
-use Rattle.stream.specs.declared.Next.TheVariants as nexts
+use Rattle.stream.specs.Window.{levels, Held, Enters}
+use Rattle.stream.specs.declared.maps.Maps.{Maps}
+use Rattle.stream.specs.declared.walk.Next.TheVariants as nexts
 use Rattle.stream.proofs.Then.{never, then_reads}
 use Rattle.stream.proofs.Owing.{pending_start, owing_none, owing_short}
 use Rattle.stream.proofs.Stepping.{step_stop, step_element, step_entries}
@@ -91,18 +91,6 @@ module _ (s : List ℕ) (from : ℕ) where
               held = walk.held;
               within = part.within;
               small = walk.small;
-              taken = omega (arith, walk.taken, part.taken);
-              few = omega (arith, walk.few);
-            }
-
-        pub count_entry : {w' : List ℕ} {m' : Maps} {owing' : ℕ} → Owes s (part_of node) end owed owing' → Entered s at (part_of node) end m w w' m'
-            → Counting w' (end + 4) owing' m' (n + 1) t'
-        count_entry owes enters =
-            record {
-              stands = rw types (enters.on _ owed _ n t owes.more walk.stands);
-              held = enters.held;
-              within = owes.long;
-              small = owes.small;
               taken = omega (arith, walk.taken, part.taken);
               few = omega (arith, walk.few);
             }

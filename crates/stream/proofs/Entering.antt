@@ -2,19 +2,19 @@
 -- Assumes nothing.
 use Prim.Native.Nat.{ℕ, suc, max, ◌+◌, ◌-◌, ◌≤◌, ◌<◌}
 use mathlib.Core.Path.{◌≡◌, refl, sym, ◌∙◌}
-use mathlib.Core.Bool.{true, false}
+use mathlib.Core.Bool.{true}
 use mathlib.Core.List.{List, [], ◌∷◌}
 use native.Mathlib.Omega.{arith}
 use lib.ListN.{length, drop}
 use Rattle.std.specs.Prelude.{Option, Some, None}
 use Rattle.definitions.specs.Command.{Head}
-use Rattle.definitions.specs.Stream.{Read, read, number}
+use Rattle.definitions.specs.Stream.{Read, read}
 use Rattle.numbers.specs.Words.{word}
-use Rattle.numbers.proofs.Numbers.{number_at_lem}
 use Rattle.stream.specs.Head.{head}
 use Rattle.stream.specs.Walk.{Level, level, total, Sum, owing, Stands, entries_of, own_bound, Settles}
 use Rattle.stream.specs.Window.{levels, Held, Pushed, Followed, Follows, Lost, Roomy, Entered, Enters}
-use Rattle.stream.specs.declared.Maps.{Maps}
+use Rattle.stream.specs.declared.maps.Maps.{Maps}
+use Rattle.stream.proofs.Places.{offset_at}
 use Rattle.stream.proofs.Owing.{owing_is, owing_shut, owing_entry, pending_shut, level_next}
 use Rattle.stream.proofs.Keeping.{no_levels, none_left}
 use Rattle.stream.proofs.Stepping.{step_entries}
@@ -50,16 +50,10 @@ module _ (s : List ℕ) (at : ℕ) (m : Maps) (w : List ℕ) where
             }));
       }
 
-  pub room_lost : Settles s at (levels m w) false → Lost s at (levels m w)
-  room_lost settles x owed n t stands = stands.same ∙ settles n t stands.others
-
 -- The next entry
 
 module _ (s : List ℕ) (at : ℕ) (h : Head) (end : ℕ) (part : head (drop at s) ≡ read h (drop end s)) (other : h.command ≡ 0x04 → ⊥)
     (long : end + 4 ≤ length s) {o : ℕ} (offset : o ≡ word s end) where
-  number_here : number 4 (drop end s) ≡ read o (drop (end + 4) s)
-  number_here = rw offset (number_at_lem 4 s end (end + 4) refl long)
-
   module _ {x : Read Sum} {owed owing' n t : ℕ} {ls : List Level} (more : entries_of h + owed ≡ suc owing') (stands : Stands x s at owed ls n t) where
     abbrev bound : ℕ
     bound = max t (own_bound h)
@@ -73,7 +67,7 @@ module _ (s : List ℕ) (at : ℕ) (h : Head) (end : ℕ) (part : head (drop at 
         record {
           others = stands.others;
           owes = omega (arith, stands.owes);
-          same = opened e ∙ level_next (n + 1) bound c 0 ls stands.others (drop end s) number_here (omega arith);
+          same = opened e ∙ level_next (n + 1) bound c 0 ls stands.others (drop end s) (offset_at s end long offset) (omega arith);
         }
 
     -- nothing was opened
@@ -85,7 +79,7 @@ module _ (s : List ℕ) (at : ℕ) (h : Head) (end : ℕ) (part : head (drop at 
         record {
           others = stands.others;
           owes = omega (arith, stands.owes, follows.count);
-          same = closed e ∙ follows.same (n + 1) bound stands.others (drop end s) (drop (end + 4) s) number_here;
+          same = closed e ∙ follows.same (n + 1) bound stands.others (drop end s) (drop (end + 4) s) (offset_at s end long offset);
         }
 
   -- no map is kept
@@ -99,7 +93,7 @@ module _ (s : List ℕ) (at : ℕ) (h : Head) (end : ℕ) (part : head (drop at 
         same =
             closed more stands e
             ∙ owing_is [] (drop end s) refl refl one
-            ∙ owing_entry (n + 1) (max t (own_bound h)) owing' (drop end s) number_here;
+            ∙ owing_entry (n + 1) (max t (own_bound h)) owing' (drop end s) (offset_at s end long offset);
       }
 
   module _ (m : Maps) (w : List ℕ) where
@@ -115,7 +109,7 @@ module _ (s : List ℕ) (at : ℕ) (h : Head) (end : ℕ) (part : head (drop at 
     pub enter_next : entries_of h ≡ 0 → (r : Option Maps) → Follows m o w r → Enters s at h end m w w r
     enter_next e (Some m') follows = record { held = follows.0; on = λ x owed owing' n t more stands. followed more stands e follows.1 }
     enter_next e None falls = λ x owed owing' n t more stands.
-        closed more stands e ∙ falls (n + 1) (max t (own_bound h)) stands.others (drop end s) (drop (end + 4) s) number_here
+        closed more stands e ∙ falls (n + 1) (max t (own_bound h)) stands.others (drop end s) (drop (end + 4) s) (offset_at s end long offset)
 
     pub enter_one : Held m w → entries_of h ≡ 1 → Entered s at h end m w w m
     enter_one held e = record { held = held; on = λ x owed owing' n t more stands. unshut (suc o) (first more stands e) }

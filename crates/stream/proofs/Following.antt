@@ -10,7 +10,7 @@ use Rattle.definitions.specs.Stream.{read_node}
 use Rattle.stream.specs.Found.{type_bound}
 use Rattle.stream.specs.Walk.{Level, level, owing, pending}
 use Rattle.stream.specs.Window.{kept, levels, Held, Popped, Followed, Follows}
-use Rattle.stream.specs.declared.Maps.{Maps}
+use Rattle.stream.specs.declared.maps.Maps.{Maps}
 use Rattle.stream.proofs.Then.{then_same}
 use Rattle.stream.proofs.Owing.{pending_shut, level_falls, level_next}
 

@@ -9,7 +9,7 @@ use Rattle.numbers.specs.Words.{number_at, put_at, word, put}
 use Rattle.numbers.proofs.Numbers.{length_put, number_put, number_put_other}
 use Rattle.stream.specs.Walk.{level, total, owing}
 use Rattle.stream.specs.Window.{kept, levels, Held, Popped, Pushed}
-use Rattle.stream.specs.declared.Maps.{Maps}
+use Rattle.stream.specs.declared.maps.Maps.{Maps}
 use Rattle.stream.proofs.Owing.{owing_shut}
 
 kept_same : (w w' : List ℕ) (d : ℕ)

@@ -1,7 +1,7 @@
 -- Nodes one after the other: those that are still to be read, with the sums of those before them, tell what all of them do.
 -- Assumes nothing.
 use Prim.Native.Nat.{ℕ, suc, max, ◌+◌, ◌-◌, ◌≤◌, ◌<◌}
-use mathlib.Core.Path.{◌≡◌, refl, sym, ap, ◌∙◌}
+use mathlib.Core.Path.{◌≡◌, sym, ap, ◌∙◌}
 use mathlib.Core.List.{List}
 use native.Mathlib.Omega.{arith}
 use lib.ListN.{length, drop}
@@ -58,9 +58,6 @@ module _ (s : List ℕ) (from count : ℕ) where
 
   abbrev All : Option Found → Type 0
   All r = r ≡ told nodes_of bound_of (whole (read_nodes count (drop from s)))
-
-  pub list_start : from ≤ length s → Listing from 0 0 count
-  list_start h = record { same = refl; within = h; taken = omega arith }
 
   module _ {at n t left : ℕ} (list : Listing at n t left) where
     as_told : {r : Read Sum} → listed n t left (drop at s) ≡ r → All (tells r)

@@ -1,4 +1,4 @@
--- Pieces at a place of the bytes: a byte, and a size of any width, which is a flag and a number.
+-- Pieces at a place of the bytes: a byte, an offset, and a size of any width, which is a flag and a number.
 -- Assumes nothing.
 use Prim.Native.Nat.{ℕ, zero, suc, ◌+◌, ◌*◌, ◌-◌, ◌≤◌, ◌<◌}
 use mathlib.Core.Path.{◌≡◌, refl}
@@ -7,10 +7,10 @@ use native.Mathlib.Omega.{arith}
 use native.Mathlib.Numerals.{add-one}
 use lib.ListN.{length, get_or, drop}
 use lib.Seq.{drop-cons}
-use Rattle.definitions.specs.Stream.{broken, number, size_from, read_size}
+use Rattle.definitions.specs.Stream.{broken, read, number, size_from, read_size}
 use Rattle.definitions.proofs.Choice.{either}
 use Rattle.definitions.proofs.Reading.{Reads, stops, gives, reads_then}
-use Rattle.numbers.specs.Words.{number_at}
+use Rattle.numbers.specs.Words.{number_at, word}
 use Rattle.numbers.proofs.Numbers.{number_at_lem, number_short}
 
 pub number_takes : (w : ℕ) (bs : List ℕ) → Reads (λ n rest. length bs ≡ w + length rest) (number w bs)
@@ -20,6 +20,9 @@ number_takes (suc w) (b ∷ bs) = reads_then (number_takes w bs) λ n rest h. gi
 
 pub byte_at : (s : List ℕ) (at : ℕ) → at < length s → drop at s ≡ get_or s at 0 ∷ drop (at + 1) s
 byte_at s at h = rw (add-one at) (drop-cons s at 0 h)
+
+pub offset_at : (s : List ℕ) (at : ℕ) {o : ℕ} → at + 4 ≤ length s → o ≡ word s at → number 4 (drop at s) ≡ read o (drop (at + 4) s)
+offset_at s at long is = rw is (number_at_lem 4 s at (at + 4) refl long)
 
 pub size_short : (w : ℕ) (bs : List ℕ) → length bs < w → read_size w bs ≡ broken
 size_short zero bs h = refl

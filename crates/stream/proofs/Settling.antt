@@ -11,11 +11,11 @@ use Rattle.std.specs.Prelude.{Some, None}
 use Rattle.definitions.specs.Usage.{Usage, nodes}
 use Rattle.definitions.specs.Stream.{Read, broken, read, number, read_node}
 use Rattle.numbers.specs.Words.{word}
-use Rattle.numbers.proofs.Numbers.{number_at_lem}
 use Rattle.stream.specs.Found.{type_bound}
 use Rattle.stream.specs.Walk.{Level, level, total, Sum, owing, pending, Skips, Settles}
 use Rattle.stream.specs.Window.{Followed}
 use Rattle.stream.proofs.Then.{never, then_reads}
+use Rattle.stream.proofs.Places.{offset_at}
 use Rattle.stream.proofs.Owing.{owing_is, owing_entry, owing_short, pending_shut, pending_loose}
 
 -- a node, and what is behind it
@@ -45,9 +45,6 @@ module _ (s : List ℕ) (from : ℕ) (ls₀ : List Level) where
     pub on : (n t k : ℕ) (x : Sum) (rest : List ℕ) → Loose n t k ≡ read x rest
         → (m : ℕ) × (b : ℕ) × (Ordered n t k ≡ pending m b ls k (drop at s)) × (pending m b [] (total ls + k) (drop at s) ≡ read x rest)
     pub within : at ≤ length s
-
-  pub settle_start : from ≤ length s → Settling from ls₀
-  settle_start h = record { on = λ n t k x rest e. (n, t, refl, e); within = h }
 
   -- what does not read in any order does not read in order
   unread : (n t k : ℕ) → ((x : Sum) (rest : List ℕ) → Loose n t k ≡ read x rest → Ordered n t k ≡ broken) → Ordered n t k ≡ broken
@@ -99,14 +96,11 @@ module _ (s : List ℕ) (from : ℕ) (ls₀ : List Level) where
           never (sym (owing_short w.0 w.1 [] (total ls + k) (drop next s) (rw length-drop (omega arith))) ∙ w.3)
 
       module _ (long : next + 4 ≤ length s) {o : ℕ} (offset : o ≡ word s next) where
-        number_here : number 4 (drop next s) ≡ read o (drop (next + 4) s)
-        number_here = rw offset (number_at_lem 4 s next (next + 4) refl long)
-
         pub settle_falls : ((n t k : ℕ) (bs rest : List ℕ) → number 4 bs ≡ read o rest → owing n t ls k bs ≡ broken) → Settles s from ls₀ false
         settle_falls falls n t k =
             unread n t k λ x rest e.
             let w = behind n t k x rest e in
-            w.2 ∙ falls w.0 w.1 k (drop next s) (drop (next + 4) s) number_here
+            w.2 ∙ falls w.0 w.1 k (drop next s) (drop (next + 4) s) (offset_at s next long offset)
 
         pub settle_next : {ls' : List Level} → Followed ls o ls' → Settling (next + 4) ls'
         settle_next {ls'} follows =
@@ -116,8 +110,8 @@ module _ (s : List ℕ) (from : ℕ) (ls₀ : List Level) where
                   let count : total ls + k ≡ suc (total ls' + k) = omega (arith, follows.count) in (
                     w.0,
                     w.1,
-                    w.2 ∙ follows.same w.0 w.1 k (drop next s) (drop (next + 4) s) number_here,
-                    sym (owing_is [] (drop next s) refl refl count ∙ owing_entry w.0 w.1 (total ls' + k) (drop next s) number_here) ∙ w.3,
+                    w.2 ∙ follows.same w.0 w.1 k (drop next s) (drop (next + 4) s) (offset_at s next long offset),
+                    sym (owing_is [] (drop next s) refl refl count ∙ owing_entry w.0 w.1 (total ls' + k) (drop next s) (offset_at s next long offset)) ∙ w.3,
                   );
               within = long;
             }

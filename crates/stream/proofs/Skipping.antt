@@ -11,12 +11,12 @@ use Rattle.definitions.specs.Command.{Head}
 use Rattle.definitions.specs.Stream.{Read, broken, read, read_node}
 use Rattle.qptr.specs.declared.Node.{Node}
 use Rattle.qptr.specs.Values.{part_of}
-use Rattle.numbers.proofs.Numbers.{number_at_lem}
+use Rattle.stream.proofs.Places.{offset_at}
 use Rattle.stream.specs.Head.{head, OutlineAt}
 use Rattle.stream.specs.Found.{type_bound}
 use Rattle.stream.specs.Walk.{Sum, sum, owing, pending, entries_of, own_bound, Goes, Skips}
-use Rattle.stream.specs.declared.Next.{Next}
-use Rattle.stream.specs.declared.Next.TheVariants as nexts
+use Rattle.stream.specs.declared.walk.Next.{Next}
+use Rattle.stream.specs.declared.walk.Next.TheVariants as nexts
 use Rattle.stream.proofs.Owing.{pending_start, owing_is, owing_entry, owing_loose, owing_short, owing_none}
 use Rattle.stream.proofs.Stepping.{step_stop, step_element, step_entries}
 use Rattle.stream.proofs.Parts.{outline_same}
@@ -103,7 +103,7 @@ module _ (s : List ℕ) (from : ℕ) where
             n = walk.n + 1;
             t = bound;
             leads = λ x rest p.
-                sym (owing_is [] (drop end s) refl refl goes.more ∙ owing_entry (walk.n + 1) bound owing (drop end s) (number_at_lem 4 s end (end + 4) refl goes.long))
+                sym (owing_is [] (drop end s) refl refl goes.more ∙ owing_entry (walk.n + 1) bound owing (drop end s) (offset_at s end goes.long refl))
                 ∙ entries goes.other x rest p;
             within = goes.long;
             small = goes.small;

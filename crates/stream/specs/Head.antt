@@ -8,7 +8,7 @@ use Rattle.definitions.specs.Stream.{Read, broken, read, ◌then◌, number, rea
 use Rattle.qptr.specs.Values.{size_of, part_of, command_of}
 use Rattle.qptr.specs.declared.MaxSize.{MaxSize}
 use Rattle.qptr.specs.declared.Node.{Node}
-use Rattle.stream.specs.declared.HeaderAt.{HeaderAt}
+use Rattle.stream.specs.declared.own_part.HeaderAt.{HeaderAt}
 
 -- nodes have commands up to 04, whose stride is not 0
 abbrev pub own : ℕ → Size → ℕ → List ℕ → Read Head

@@ -6,8 +6,8 @@ use Rattle.definitions.specs.Usage.{Usage, Entries, none, entry, nodes, nodes_in
 use Rattle.definitions.specs.Command.{Head}
 use Rattle.definitions.specs.Stream.{Read, broken, read, ◌then◌, number, read_node, read_entries}
 use Rattle.stream.specs.Found.{type_bound, type_bound_in}
-use Rattle.stream.specs.declared.Next.{Next}
-use Rattle.stream.specs.declared.Next.TheVariants as nexts
+use Rattle.stream.specs.declared.walk.Next.{Next}
+use Rattle.stream.specs.declared.walk.Next.TheVariants as nexts
 
 -- so many entries, with offsets in any order
 unfoldable pub each : ℕ → List ℕ → Read Entries

@@ -5,7 +5,7 @@ use Rattle.definitions.specs.Command.{Head}
 use Rattle.definitions.specs.Stream.{Read, broken, read, number}
 use Rattle.numbers.specs.Words.{number_at, word}
 use Rattle.stream.specs.Walk.{Level, level, total, Sum, owing, pending, Stands, entries_of, own_bound}
-use Rattle.stream.specs.declared.Maps.{Maps}
+use Rattle.stream.specs.declared.maps.Maps.{Maps}
 
 -- the lowest d levels of a window, the uppermost first: each has an entry left
 unfoldable pub kept : List ℕ → ℕ → List Level
