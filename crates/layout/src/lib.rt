@@ -1,4 +1,5 @@
-// Layout tables: which bytes are one, what the record of a type says, and which of its components contain a range.
+// Layout tables: which bytes are one, what the record of a type says, and which of its components contain a range. Records are read at
+// their places, and a list of fields is a place too: `accept` keeps places in 32 bits, where a slice of the rest would take four times the room.
 #![tactic(auto)]
 
 ghost use Rattle.std.specs.Prelude.{◌≡◌, true, ◌≤◌};
@@ -21,9 +22,6 @@ pub const RECORDS: usize = 1024;
 
 // As many records as most tables have at most.
 pub const FEW: usize = 32;
-
-// Records are read at their places, and a list of fields is a place too: `accept` keeps places in 32 bits, where a slice of the rest would take
-// four times the room. A stride or a length of 0 is none, as it stands in the table.
 
 // Does a table say that it has few records?
 pub fn has_few(s: &[u8]) -> bool

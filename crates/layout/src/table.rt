@@ -1,4 +1,5 @@
-// A layout table and what it can be asked: the layout of a type, its size, and whether it is dynamic.
+// A layout table and what it can be asked: the layout of a type, its size, and whether it is dynamic. A stride or a length of
+// 0 is none, as it stands in the table.
 ghost use Rattle.definitions.specs.Table.{is_concrete, fixed_size, is_dynamic};
 ghost use Rattle.layout.specs.Places.{InTable, LayoutIs, Says};
 
