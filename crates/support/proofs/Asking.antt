@@ -4,17 +4,16 @@ use Prim.Native.Nat.{ℕ}
 use mathlib.Core.Path.{◌≡◌, refl}
 use mathlib.Core.Bool.{Bool, true, false}
 use mathlib.Core.List.{List, []}
-use Rattle.std.specs.Prelude.{Ok, Err}
+use Rattle.std.specs.Prelude.{Ok}
 use Rattle.definitions.specs.If.{when◌then◌else◌}
 use Rattle.definitions.specs.Place.{Kept, asked}
 use Rattle.layout.specs.Places.{LayoutIs}
 use Rattle.layout.specs.declared.table.Components.{Components}
 use Rattle.layout.specs.declared.table.TypeLayout.{TypeLayout}
-use Rattle.layout.specs.declared.table.TypeLayout.TheVariants.{Concrete, Handle as IsHandle, Failed as HasFailed}
+use Rattle.layout.specs.declared.table.TypeLayout.TheVariants.{Concrete}
 use Rattle.layout.specs.declared.table.Table.{Table}
 use Rattle.support.specs.Answers.{Supports, kept_by, Answers}
 use Rattle.support.proofs.Types.{layout_is}
-use Rattle.support.specs.declared.NotAsked.TheVariants.{Handle, Failed}
 
 kept_either : (v : Bool) (ty : ℕ) (otherwise : Kept) → kept_by (Ok v) ty otherwise ≡ (when v then record { type = ty; report = [] } else otherwise)
 unfolding when◌then◌else◌
@@ -22,11 +21,5 @@ kept_either true ty otherwise = refl
 kept_either false ty otherwise = refl
 
 module _ {table : Table} {ty at : ℕ} {s : List ℕ} {q : ℕ} {r : TypeLayout} (l : LayoutIs table ty r) where
-  pub handle_answers : r ≡ IsHandle → Answers table ty at s q (Err Handle)
-  handle_answers y = record { is = λ st k b u r lo hi a otherwise. rw (asked, layout_is l y st k b) }
-
-  pub failed_answers : r ≡ HasFailed → Answers table ty at s q (Err Failed)
-  failed_answers y = record { is = λ st k b u r lo hi a otherwise. rw (asked, layout_is l y st k b) }
-
   pub ok_answers : {n d : ℕ} {cs : Components} {v : Bool} → r ≡ Concrete n d cs → Supports table ty at s q v → Answers table ty at s q (Ok v)
   ok_answers {v = v} y g = record { is = λ st k b u r lo hi a otherwise. rw (asked, layout_is l y st k b, ← g.is st k b u r lo hi a) (kept_either v ty otherwise) }

@@ -3,14 +3,14 @@
 -- Assumes nothing.
 use Prim.Native.Nat.{ℕ, ◌<◌}
 use native.Mathlib.Omega.{arith}
-use mathlib.Core.Path.{◌≡◌, ap, sym, ◌∙◌}
+use mathlib.Core.Path.{◌≡◌, ap, ◌∙◌}
 use mathlib.Core.Bool.{Bool, true, false, ◌||◌}
 use mathlib.Core.List.{List}
-use Rattle.std.specs.Prelude.{Option, Some, None}
+use Rattle.std.specs.Prelude.{Option, Some}
 use lib.ListN.{length}
 use Rattle.definitions.specs.Usage.{Size, size}
 use Rattle.definitions.specs.Table.{Setting, Components as Parts, concrete, layout_of}
-use Rattle.definitions.specs.Containment.{Inside, end_of}
+use Rattle.definitions.specs.Containment.{end_of}
 use Rattle.definitions.specs.Support.{any_of, component_supports, supports}
 use Rattle.records.specs.Records.{size_in}
 use Rattle.layout.specs.Places.{Known}
@@ -18,7 +18,6 @@ use Rattle.layout.specs.Containing.{containing_from, Next, Finds}
 use Rattle.layout.specs.declared.containment.Component.{Component}
 use Rattle.layout.specs.declared.table.Table.{Table}
 use Rattle.layout.proofs.Uses.{component_below, from_start}
-use Rattle.support.specs.Known.{ConcreteAskable}
 use Rattle.support.specs.Answers.{OfEach, InLayout, Supports, ComponentSupports}
 use Rattle.support_memory.proofs.Roots.{size_is}
 
@@ -40,11 +39,6 @@ module _ {table : Table} {ty at : ℕ} {s : List ℕ} {q : ℕ} where
         (n d : ℕ) (cs : Parts) → layout_of st.table ty ≡ concrete n d cs → Next (containing_from st cs at end) from v
     next_is y st k b n d cs l = rw y at (f.is st k.placed b n d cs l)
 
-    pub none_asked : r ≡ None → ComponentSupports table ty at s q false
-    none_asked y = record {
-      is = λ st k b n d cs l u r lo hi a. sym (h.is st k b n d cs l u r lo hi a ∙ ap (λ (x : List Inside). any_of (supports st) x u) (next_is y st k b n d cs l));
-    }
-
     module _ {c : Component} {v : Bool} (y : r ≡ Some c) (g : Supports table c.ty c.rest s q v) where
       -- the component at the index, and those after it
       head_says : InLayout table ty λ st cs. OfEach s q λ u.
@@ -57,8 +51,3 @@ module _ {table : Table} {ty at : ℕ} {s : List ℕ} {q : ℕ} where
 
       pub more_asked : v ≡ false → AskedFrom table ty at s q end c.next
       more_asked t = record { is = λ st k b n d cs l u r lo hi a. rw (head_says st k b n d cs l u r lo hi a, t) }
-
-    pub next_later : {c : Component} → r ≡ Some c → ConcreteAskable table ty s q → from < c.next
-    next_later y w =
-        let t = w.asks.type in
-        (next_is y t.setting t.known t.below w.size w.stride w.parts w.layout).1

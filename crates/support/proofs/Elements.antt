@@ -32,11 +32,6 @@ module _ {table : Table} {b : Array} {at : ℕ} {s : List ℕ} {q t : ℕ} (x : 
   }
 
   module _ (same : b.stride ≡ t) where
-    pub between_elements : (at % b.stride ≡ 0 → ⊥) → ElementsSupported table b at s q false
-    between_elements h = record {
-      is = λ st k l z n e r lo hi a. rw (own_stride s q z n e r lo hi a x same, eq-eqb b.stride b.stride refl, ne_eqb (at % b.stride) 0 h);
-    }
-
     module _ (starts : at % b.stride ≡ 0) {v : Bool} {y : Size} (here : y ≡ size_in s q) (g : v ≡ same_length b.stride b.len at y) where
       pub other_length : v ≡ false → ElementsSupported table b at s q false
       other_length h = record {

@@ -26,7 +26,7 @@ use Rattle.layout.proofs.Finding.{some_stride, element_below}
 use Rattle.support.specs.Known.{Askable, ComponentsOf}
 use Rattle.support.specs.Answers.{EntriesSupported, ElementsSupported, ItselfSupports}
 use Rattle.support_memory.proofs.Roots.{by_kind, on_map, on_array, command_of_kind}
-use Rattle.support.proofs.Types.{type_in, layout_is, asks_earlier}
+use Rattle.support.proofs.Types.{type_in, layout_is}
 
 module _ {table : Table} {ty at : ℕ} {s : List ℕ} {q : ℕ} {k : Kind} (x : k ≡ kind_of (command_in s q)) where
   pub by_entries : {v : Bool} → k ≡ OffsetBase → EntriesSupported table ty at s q v → ItselfSupports table ty at s q v
@@ -73,9 +73,6 @@ module _ {table : Table} {ty : ℕ} {s : List ℕ} {q : ℕ} {cs : Components} (
   module _ {b : Array} (w : Askable table ty s q) (y : cs ≡ Elements b) where
     pub element_known : (b.elem < ty) × (0 < b.stride)
     element_known = (element_below (type_in w.type) p.is refl y, some_stride (type_in w.type) p.is refl y)
-
-    pub asks_elements : Askable table b.elem s q
-    asks_elements = asks_earlier w element_known.0
 
     pub by_elements : {at : ℕ} {k : Kind} {v : Bool} → k ≡ kind_of (command_in s q) → k ≡ DynOffsetBase → ElementsSupported table b at s q v → ItselfSupports table ty at s q v
     by_elements x h g = by_array p y x h λ st known l z n e r lo hi a. g.is st known (omega (arith, element_known.0)) z n e r lo hi a

@@ -1,6 +1,6 @@
 -- A usage is a leaf if its record's kind is one of a leaf, and then its record has its type.
 -- Assumes nothing.
-use Rattle.std.proofs.Common.{◌≡◌, ℕ, ◌≤◌, true, false, eqb, ◌⊎◌, List, refl, ⊎_elim, arith, eq-eqb, ne_eqb}
+use Rattle.std.proofs.Common.{◌≡◌, ℕ, ◌≤◌, true, false, eqb, ◌⊎◌, List, refl, ⊎_elim, arith, eq-eqb}
 use mathlib.Core.Bool.{and-false}
 use Rattle.definitions.specs.Usage.{Usage}
 use Rattle.definitions.specs.Support.{is_unused, is_leaf_of}
@@ -26,9 +26,6 @@ module _ (u : Usage) (s : List ℕ) (q : ℕ) (r : ℕ → ℕ) (lo hi : ℕ) (a
       u a
 
 module _ {ty at : ℕ} {s : List ℕ} {q : ℕ} where
-  pub moved_leaf : (at ≡ 0 → ⊥) → WholeLeaf ty at s q false
-  moved_leaf h = record { is = λ u r lo hi a. rw (ne_eqb at 0 h) }
-
   module _ {k : Kind} (x : k ≡ kind_of (command_in s q)) where
     pub leaf_type : {t : ℕ} → at ≡ 0 → (k ≡ StrictlyTyped) ⊎ (k ≡ DirectAccess) → t ≡ argument_in s q → WholeLeaf ty at s q (eqb ty t)
     unfolding Stands

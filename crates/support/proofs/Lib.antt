@@ -2,7 +2,6 @@ pub mod Leaves
 pub mod Types
 pub mod Components
 pub mod Entries
-pub mod OneEntry
 pub mod Elements
 pub mod Itself
 pub mod Rules

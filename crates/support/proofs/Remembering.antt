@@ -1,18 +1,16 @@
--- What is remembered is true: it is forgotten at first, what is recalled is an answer that was given, and what is remembered anew
--- is the answer that was just given.
+-- What is remembered is true: what is recalled is an answer that was given, and what is remembered anew is the answer that was just given.
 -- Assumes nothing.
-use Prim.Native.Nat.{ℕ, ◌+◌, ◌*◌, ◌<◌}
+use Prim.Native.Nat.{ℕ, ◌<◌}
 use mathlib.Core.Path.{◌≡◌, refl, sym, ◌∙◌}
-use mathlib.Core.Bool.{Bool, true, false}
+use mathlib.Core.Bool.{Bool}
 use mathlib.Core.List.{List}
 use mathlib.Core.Logic.{⊎_elim}
 use native.Mathlib.Omega.{arith}
 use native.Mathlib.Decide.{ℕ_discrete}
-use lib.ListN.{length, replicate}
-use Rattle.std.proofs.lemmas.List.Elements.{All-contains, All-replicate}
+use lib.ListN.{length}
 use Rattle.definitions.proofs.Earlier.{accepted}
 use Rattle.records.specs.Records.{Marked}
-use Rattle.support_memory.specs.Nodes.{Unchanged, Child, Below, Blank}
+use Rattle.support_memory.specs.Nodes.{Unchanged, Child, Below}
 use Rattle.support_memory.specs.Memory.{tag_of, Marks, Recollects, Remembers}
 use Rattle.support_memory.specs.declared.Answer.{Answer}
 use Rattle.support_memory.proofs.Marking.{one_tag}
@@ -22,10 +20,6 @@ use Rattle.support.specs.Answers.{Supports}
 use Rattle.support.specs.Memory.{Recalls, Listed, Memory, Kept}
 use Rattle.support.proofs.Staying.{supports_after}
 use Rattle.layout.specs.declared.table.Table.{Table}
-
-no_tag : (ty : ℕ) (b : Bool) → 0 ≡ tag_of ty b → ⊥
-no_tag ty true e = omega arith
-no_tag ty false e = omega arith
 
 -- a table has few types
 pub type_few : {table : Table} {ty : ℕ} → TypeKnown table ty → ty < 1024
@@ -62,16 +56,6 @@ module _ {table : Table} where
   -- of an element or an entry
   pub memory_part : {s : List ℕ} {d : List Answer} {q e : ℕ} → Child s q e → Memory table s q d → Memory table s e d
   memory_part {q = q} {e = e} c M = record { nodes = λ i h. M.nodes i (Below.inside q e i c h); list = M.list }
-
-  -- nothing is remembered
-
-  pub blank_memory : (n : ℕ) {s : List ℕ} {q : ℕ} → Blank s q → Memory table s q (replicate n (record { tag = 0; past = 0 }))
-  blank_memory n B = record {
-    nodes = λ i h. record { is = λ ty b e. absurd (no_tag ty b (sym (B.tags i h) ∙ e)) };
-    list = record {
-      is = λ ty at i b l h. absurd (no_tag (i * 1024 + ty) b (sym (All-contains (λ (x : Answer). x.tag ≡ 0) _ _ (All-replicate (λ (x : Answer). x.tag ≡ 0) n (record { tag = 0; past = 0 }) refl) h)));
-    };
-  }
 
   -- what is recalled
 

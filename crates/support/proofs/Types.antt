@@ -3,12 +3,10 @@
 use Prim.Native.Nat.{ℕ, ◌<◌}
 use native.Mathlib.Omega.{arith}
 use mathlib.Core.Path.{◌≡◌, refl, ap, sym, ◌∙◌}
-use mathlib.Core.Bool.{true}
-use mathlib.Core.Logic.{◌⊎◌, ⊎_elim}
 use mathlib.Core.List.{List}
 use lib.ListN.{length}
 use Rattle.definitions.specs.Usage.{Usage}
-use Rattle.definitions.specs.Table.{Setting, layout_of, concrete, is_concrete}
+use Rattle.definitions.specs.Table.{Setting, layout_of}
 use Rattle.definitions.specs.Support.{support_rules, supports}
 use Rattle.definitions.proofs.Earlier.{accepted}
 use Rattle.definitions.proofs.Support.{supports_is}
@@ -16,10 +14,9 @@ use Rattle.layout.specs.Values.{parts_of, layout_in}
 use Rattle.layout.specs.Places.{Known, InTable, LayoutIs}
 use Rattle.layout.specs.declared.table.Components.{Components}
 use Rattle.layout.specs.declared.table.TypeLayout.{TypeLayout}
-use Rattle.layout.specs.declared.table.TypeLayout.TheVariants.{Concrete, Handle, Failed}
+use Rattle.layout.specs.declared.table.TypeLayout.TheVariants.{Concrete}
 use Rattle.layout.specs.declared.table.Table.{Table}
-use Rattle.std.proofs.lemmas.Bool.{both_ways}
-use Rattle.support.specs.Known.{TypeKnown, ConcreteType, Askable, ConcreteAskable, ComponentsOf}
+use Rattle.support.specs.Known.{TypeKnown, Askable, ConcreteAskable, ComponentsOf}
 
 module _ {table : Table} where
   pub type_in : {ty : ℕ} → TypeKnown table ty → InTable table ty
@@ -35,19 +32,6 @@ module _ {table : Table} where
 
   pub components_of : {ty n d : ℕ} {r : TypeLayout} {cs : Components} → LayoutIs table ty r → r ≡ Concrete n d cs → ComponentsOf table ty cs
   components_of {n = n} {d = d} l y = record { size = n; stride = d; is = rw y at l }
-
-  -- a concrete type is no handle, and has not failed
-
-  is_concrete_then : {ty : ℕ} {r v : TypeLayout} → ConcreteType table ty → LayoutIs table ty r → r ≡ v → is_concrete (layout_in table.bytes.now v) ≡ true
-  is_concrete_then {ty} {v = v} w l y =
-      let e : concrete w.size w.stride w.parts ≡ layout_in table.bytes.now v = sym w.layout ∙ layout_is l y w.type.setting w.type.known w.type.below in
-      sym (ap is_concrete e)
-
-  pub only_concrete : {ty : ℕ} {r : TypeLayout} → ConcreteType table ty → LayoutIs table ty r → (r ≡ Handle) ⊎ (r ≡ Failed) → ⊥
-  only_concrete w l = ⊎_elim (λ y. both_ways _ refl (is_concrete_then w l y)) (λ y. both_ways _ refl (is_concrete_then w l y))
-
-  pub concrete_type : {ty : ℕ} {s : List ℕ} {q : ℕ} → ConcreteAskable table ty s q → ConcreteType table ty
-  concrete_type w = record { type = w.asks.type; size = w.size; stride = w.stride; parts = w.parts; layout = w.layout }
 
   module _ {s : List ℕ} {q ty : ℕ} where
     pub asks_earlier : {c : ℕ} → Askable table ty s q → c < ty → Askable table c s q

@@ -28,17 +28,11 @@ module _ {table : Table} {ty at : ℕ} {s : List ℕ} {q : ℕ} {whole : Bool} w
   pub says_whole : {v : Bool} → whole ≡ true → Supports table ty at s q v → Says table ty at s q whole v
   says_whole w g = record { layout = λ e. g; components = λ e. absurd (both_ways _ e w) }
 
-  says_parts : {v : Bool} → whole ≡ false → ComponentSupports table ty at s q v → Says table ty at s q whole v
-  says_parts p g = record { layout = λ e. absurd (both_ways _ p e); components = λ e. g }
-
   -- what the components say, and the usage itself
 
   module _ {v : Bool} (L : whole ≡ true → LeftOpen table ty at s q) (P : ComponentSupports table ty at s q v) where
     pub part_says : v ≡ true → Says table ty at s q whole v
     part_says e = rw e (record { layout = λ w. part_supported (L w) P e; components = λ p. rw e at P })
-
-    pub parts_refuse : v ≡ false → whole ≡ false → Says table ty at s q whole false
-    parts_refuse e p = says_parts p (rw e at P)
 
     pub itself_says : {i : Bool} → v ≡ false → whole ≡ true → ItselfSupports table ty at s q i → Says table ty at s q whole i
     itself_says e w self = says_whole w (itself_asked (L w) P e self)

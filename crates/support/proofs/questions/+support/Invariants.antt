@@ -7,7 +7,7 @@ use Rattle.support.proofs.Components.{AskedFrom}
 use Rattle.support.proofs.Entries.{Walked}
 use Rattle.support.proofs.Remembering.{Turned}
 use Rattle.support.proofs.Measure.{together}
-use Rattle.support.proofs.+support.Given as goal
+use Rattle.support.proofs.questions.+support.Given as goal
 
 abbrev pub decreases-any_component_supports : goal.decreases-any_component_supports
 decreases-any_component_supports l = together l.ty l.s.now l.q

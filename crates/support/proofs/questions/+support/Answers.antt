@@ -16,7 +16,7 @@ use Rattle.support.proofs.Itself.{by_entries, not_by_leaf, not_by_others, by_ele
 use Rattle.support.proofs.Whole.{asks_either, not_parts, says_whole, whole_says, part_says, itself_says}
 use Rattle.support.proofs.Staying.{supports_after, supports_before, entry_before, itself_before, open_after, asks_after, concrete_after}
 use Rattle.support.proofs.Remembering.{turned_none, turned_more, kept_none, kept_both, memory_after, memory_part, type_few, recalled, remembered_kept}
-use Rattle.support.proofs.+support.Goals as goal
+use Rattle.support.proofs.questions.+support.Goals as goal
 
 pub any_component_supports-loop-component-init : goal.any_component_supports-loop-component-init
 any_component_supports-loop-component-init t c = record { asked = search (asked_first, rules); turned = turned_none }

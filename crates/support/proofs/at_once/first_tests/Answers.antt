@@ -1,7 +1,7 @@
 -- Each answer is the first of the rules that the tests before it leave, and what is left is said by the last ones.
 use Rattle.std.proofs.Common.{rules}
 use Rattle.support.proofs.Rules.{not_concrete, unused_supported, leaf_supported, large_refused, left_open}
-use Rattle.support.proofs.first_tests.Goals as goal
+use Rattle.support.proofs.at_once.first_tests.Goals as goal
 
 pub returns-in_default : goal.returns-in_default
 returns-in_default c = search (not_concrete, rules)

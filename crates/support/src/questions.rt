@@ -1,0 +1,279 @@
+// The questions that lead to others: of a type's components, of a map's entries, and of an array's element.
+ghost use Rattle.std.specs.Prelude.{◌≡◌, true, false, ◌+◌, ◌*◌, ◌<◌, ◌≤◌, length, IfSome, MatchOption};
+ghost use Rattle.definitions.specs.Support.{same_length};
+ghost use Rattle.qptr.specs.Values.{size_of};
+ghost use Rattle.records.specs.Records.{command_in};
+ghost use Rattle.support_memory.specs.Memory.{Recollects};
+ghost use Rattle.support.specs.Known.{ConcreteType, Askable, ConcreteAskable, ComponentsOf};
+ghost use Rattle.support.specs.Answers.{Supports, ComponentSupports, EntrySupported, EntriesSupported, ElementsSupported, ItselfSupports, Says};
+ghost use Rattle.support.specs.Memory.{Memory, Kept, LeftOpen};
+
+use crate::at_once::first_tests;
+use layout::{Array, Components, Table, TypeLayout, end_of};
+use qptr::{Kind, MaxSize};
+use records::{argument, child, kind, max_size, next, offset};
+use support_memory::{Answer, recall, remember};
+
+// A question is of a type at an offset, about the usage at record q, or of the type's components alone where it is not `whole`. Each question
+// that another leads to has another type and offset, or another record, so a struct of them would be built anew at each call. `whole` is a flag
+// so that each level of types takes one frame: with a function for each of its two values types nested deep took more than twice the stack.
+
+// Does some component that contains the usage at record q support it at the remaining offset?
+#[cycle(support)]
+fn any_component_supports(
+    table: &Table<'_>,
+    ty: u32,
+    at: u32,
+    s: &mut [u8],
+    q: usize,
+    answers: &mut [Answer],
+) -> bool
+    requires concrete_askable { ConcreteAskable table.now ty s.old q }
+    requires memory { Memory table.now s.old q answers.old }
+    ensures component_supports { ComponentSupports table.now ty at s.old q result }
+    ensures kept { Kept table.now s.old s.new answers.old answers.new }
+{
+    let end = end_of(at, max_size(s, q));
+    let mut from = 0;
+    while let Some(component) = table.find_components_containing(ty, from, at, end) {
+        if supports_inside(table, component.ty, component.rest, s, q, answers, true) {
+            return true;
+        }
+        from = component.next;
+    }
+    false
+}
+
+// Is every entry of the map at record q supported, at the sum of both offsets? The entries are linked by numbers in the bytes that each
+// question writes to, so no iterator can hold these.
+#[cycle(support)]
+fn entries_supported(
+    table: &Table<'_>,
+    ty: u32,
+    at: u32,
+    s: &mut [u8],
+    q: usize,
+    answers: &mut [Answer],
+) -> bool
+    requires concrete_askable { ConcreteAskable table.now ty s.old q }
+    requires memory { Memory table.now s.old q answers.old }
+    requires q_value { command_in s.old q ≡ 3 }
+    ensures entries_supported { EntriesSupported table.now ty at s.old q result }
+    ensures kept { Kept table.now s.old s.new answers.old answers.new }
+{
+    let mut e = child(s, q);
+    while e != 0 {
+        if !entry_supported(table, ty, at, s, e, answers) {
+            return false;
+        }
+        e = next(s, e);
+    }
+    true
+}
+
+// By this whole layout if the sum is 0, else by a containing component.
+#[cycle(support)]
+fn entry_supported(
+    table: &Table<'_>,
+    ty: u32,
+    at: u32,
+    s: &mut [u8],
+    e: usize,
+    answers: &mut [Answer],
+) -> bool
+    requires concrete_askable { ConcreteAskable table.now ty s.old e }
+    requires memory { Memory table.now s.old e answers.old }
+    ensures entry_supported { EntrySupported table.now ty at s.old e result }
+    ensures kept { Kept table.now s.old s.new answers.old answers.new }
+{
+    let Some(sum) = at.checked_add(offset(s, e)) else {
+        return false;
+    };
+    supports_inside(table, ty, sum, s, e, answers, sum == 0)
+}
+
+// The array's size against the layout's length (0 = none): dynamic with no length, or whole elements up to the length.
+fn same_length(stride: u32, len: u32, at: u32, size: MaxSize) -> bool
+    requires { 0 < stride }
+    ensures { result ≡ same_length stride len at (size_of size) }
+{
+    match size {
+        MaxSize::Dynamic => len == 0,
+        MaxSize::Fixed(n) => {
+            n % stride == 0
+                && n != 0
+                && u64::from(at / stride) + u64::from(n / stride) == u64::from(len)
+        }
+    }
+}
+
+// Do elements of this stride, type and length support the array at record q? Its stride has to be theirs.
+#[cycle(support)]
+fn elements_supported(
+    table: &Table<'_>,
+    array: Array,
+    at: u32,
+    s: &mut [u8],
+    q: usize,
+    answers: &mut [Answer],
+) -> bool
+    requires askable { Askable table.now array.elem s.old q }
+    requires memory { Memory table.now s.old q answers.old }
+    requires stride_nonzero { (0 < array.stride) × (command_in s.old q ≡ 4) }
+    ensures elements_supported { ElementsSupported table.now array at s.old q result }
+    ensures kept { Kept table.now s.old s.new answers.old answers.new }
+{
+    let stride = array.stride;
+    if stride != argument(s, q) {
+        return false;
+    }
+    if at % stride != 0 {
+        return false;
+    }
+    if !same_length(stride, array.len, at, max_size(s, q)) {
+        return false;
+    }
+    let e = child(s, q);
+    supports_inside(table, array.elem, 0, s, e, answers, true)
+}
+
+// The components of a concrete layout.
+fn components_of(table: &Table<'_>, ty: u32) -> Components
+    requires { ConcreteType table.now ty }
+    ensures { ComponentsOf table.now ty result }
+{
+    match table.layout_of(ty) {
+        TypeLayout::Concrete { components, .. } => components,
+        TypeLayout::Handle | TypeLayout::Failed => unreachable!(),
+    }
+}
+
+// What is asked once no component supports the usage at record q, by its kind: only elements support an array.
+#[cycle(support)]
+fn itself_supports(
+    table: &Table<'_>,
+    ty: u32,
+    at: u32,
+    s: &mut [u8],
+    q: usize,
+    answers: &mut [Answer],
+) -> bool
+    requires concrete_askable { ConcreteAskable table.now ty s.old q }
+    requires memory { Memory table.now s.old q answers.old }
+    requires fact { command_in s.old q ≡ 0 → ⊥ }
+    ensures itself_supports { ItselfSupports table.now ty at s.old q result }
+    ensures kept { Kept table.now s.old s.new answers.old answers.new }
+{
+    match kind(s, q) {
+        Kind::Unused | Kind::StrictlyTyped | Kind::DirectAccess => false,
+        Kind::OffsetBase => entries_supported(table, ty, at, s, q, answers),
+        Kind::DynOffsetBase => match components_of(table, ty) {
+            Components::Scalar | Components::Fields(_) => false,
+            Components::Elements(array) => elements_supported(table, array, at, s, q, answers),
+        },
+    }
+}
+
+// What is left open: the components are asked, and then, of the whole layout, the usage itself.
+#[cycle(support)]
+fn supports_past_tests(
+    table: &Table<'_>,
+    ty: u32,
+    at: u32,
+    s: &mut [u8],
+    q: usize,
+    answers: &mut [Answer],
+    whole: bool,
+) -> bool
+    requires concrete_askable { ConcreteAskable table.now ty s.old q }
+    requires memory { Memory table.now s.old q answers.old }
+    requires left_open { whole ≡ true → LeftOpen table.now ty at s.old q }
+    ensures says { Says table.now ty at s.old q whole result }
+    ensures kept { Kept table.now s.old s.new answers.old answers.new }
+{
+    any_component_supports(table, ty, at, s, q, answers)
+        || whole && itself_supports(table, ty, at, s, q, answers)
+}
+
+// Answers of the whole layout are remembered, those of its components alone are not.
+fn recall_whole(
+    ty: u32,
+    at: u32,
+    s: &[u8],
+    q: usize,
+    answers: &[Answer],
+    whole: bool,
+) -> Option<bool>
+    requires { (ty < 1024) × (q < 65536) × (q * 32 + 32 ≤ length s.now) }
+    ensures { IfSome result (λ yes. (whole ≡ true) × Recollects ty at s.now q answers.now yes) }
+{
+    if whole {
+        recall(ty, at, s, q, answers)
+    } else {
+        None
+    }
+}
+
+// What is left open is recalled, or asked and remembered. All questions inside of others come here, so that the compiler makes one frame
+// of this function and those it goes through, and types nested deep take little stack.
+#[cycle(support)]
+pub(super) fn supports_or_recalls(
+    table: &Table<'_>,
+    ty: u32,
+    at: u32,
+    s: &mut [u8],
+    q: usize,
+    answers: &mut [Answer],
+    whole: bool,
+) -> bool
+    requires concrete_askable { ConcreteAskable table.now ty s.old q }
+    requires memory { Memory table.now s.old q answers.old }
+    requires left_open { whole ≡ true → LeftOpen table.now ty at s.old q }
+    ensures says { Says table.now ty at s.old q whole result }
+    ensures kept { Kept table.now s.old s.new answers.old answers.new }
+{
+    if let Some(yes) = recall_whole(ty, at, s, q, answers, whole) {
+        return yes;
+    }
+    let yes = supports_past_tests(table, ty, at, s, q, answers, whole);
+    if !whole {
+        return yes;
+    }
+    remember(ty, at, s, q, answers, yes);
+    yes
+}
+
+// The first tests are of the whole layout; its components alone are left open.
+fn test_whole(table: &Table<'_>, ty: u32, at: u32, s: &[u8], q: usize, whole: bool) -> Option<bool>
+    requires { Askable table.now ty s.now q }
+    ensures { MatchOption result (whole ≡ true → LeftOpen table.now ty at s.now q) (λ yes. (whole ≡ true) × Supports table.now ty at s.now q yes) }
+{
+    if whole {
+        first_tests(table, ty, at, s, q)
+    } else {
+        None
+    }
+}
+
+// A question inside of another, of the whole layout or of its components alone.
+#[cycle(support)]
+fn supports_inside(
+    table: &Table<'_>,
+    ty: u32,
+    at: u32,
+    s: &mut [u8],
+    q: usize,
+    answers: &mut [Answer],
+    whole: bool,
+) -> bool
+    requires askable { Askable table.now ty s.old q }
+    requires memory { Memory table.now s.old q answers.old }
+    requires concrete_askable { whole ≡ false → ConcreteAskable table.now ty s.old q }
+    ensures says { Says table.now ty at s.old q whole result }
+    ensures kept { Kept table.now s.old s.new answers.old answers.new }
+{
+    match test_whole(table, ty, at, s, q, whole) {
+        Some(yes) => yes,
+        None => supports_or_recalls(table, ty, at, s, q, answers, whole),
+    }
+}
