@@ -1,2 +1,14 @@
+pub mod Memories
 pub mod Roots
 pub mod Receivers
+pub mod Lent
+pub mod Loads
+pub mod Calling
+pub mod Sounding
+pub mod Supporting
+pub mod Pairs
+pub mod Placing
+pub mod Merging
+pub mod Promises
+pub mod FoldCalls
+pub mod Sanity

@@ -7,6 +7,8 @@ use mathlib.Core.List.{List, []}
 use mathlib.Core.Option.{Option, none as nothing, some}
 use native.Mathlib.Omega.{arith}
 use borrow.Author.Tests.{lt-ltb, le-ltb}
+use Rattle.std.specs.Prelude.{Result as Returned, Ok, Err}
+use Rattle.std.specs.Result.{is_ok}
 use Rattle.definitions.specs.If.{when◌then◌else◌}
 use Rattle.definitions.specs.Limits.{node_limit}
 use Rattle.definitions.specs.Usage.{nodes}
@@ -15,8 +17,20 @@ use Rattle.definitions.specs.Place.{Result, refused, done}
 use Rattle.definitions.specs.Calls.{receiver_of, part_of, receiver_call}
 use Rattle.qptr.specs.Values.{Receives}
 use Rattle.qptr.specs.declared.Node.{Node}
+use Rattle.answers.specs.declared.Refusal.{Refusal}
+use Rattle.inputs.specs.Inputs.{FewNodes}
 use Rattle.calls.specs.Received.{answered}
 use Rattle.calls.specs.Roots.{RootOf}
+
+-- whether there are few nodes, by whether 7 was met
+
+pub many_told : {n : ℕ} (r : Returned (Unit {0}) Refusal) → FewNodes n r → false ≡ is_ok r → node_limit < n
+many_told (Ok u) met e = cc
+many_told (Err e) met f = met.1
+
+pub few_told : {n : ℕ} (r : Returned (Unit {0}) Refusal) → FewNodes n r → true ≡ is_ok r → n ≤ node_limit
+few_told (Ok u) met e = met
+few_told (Err e) met f = cc
 
 module _ (first second : List ℕ) where
   pub bad_first : memory_of first ≡ nothing → receiver_of first second ≡ refused 3

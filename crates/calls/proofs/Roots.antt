@@ -17,7 +17,7 @@ use Rattle.stream.proofs.Heads.{read_head, head_own}
 use Rattle.qptr.specs.Values.{command_of, size_of}
 use Rattle.qptr.specs.declared.Node.{Node}
 use Rattle.calls.specs.Roots.{RootOf}
-use Rattle.serving.proofs.Memories.{Memory}
+use Rattle.calls.proofs.Memories.{Memory}
 
 -- whatever was read first
 any_then : {A B : Type 0} {Q : B → List ℕ → Type 0} (r : Read A) {next : A → List ℕ → Read B} → ((a : A) (rest : List ℕ) → Reads Q (next a rest)) → Reads Q (r then next)

@@ -1,2 +1,4 @@
 pub mod Received
 pub mod Roots
+pub mod Loaded
+pub mod Promised

@@ -3,8 +3,8 @@
 use Rattle.std.specs.Prelude.{Bool, true, false, Option, Some, None}
 use Rattle.std.proofs.Math.Option.{Option as Maybe, none as nothing, some}
 use Rattle.definitions.specs.Place.{Result, refused, done}
-use Rattle.calls.specs.declared.Received.{Received}
-use Rattle.calls.specs.declared.Received.TheVariants.{First, Second}
+use Rattle.calls.specs.declared.receiver_rule.Received.{Received}
+use Rattle.calls.specs.declared.receiver_rule.Received.TheVariants.{First, Second}
 
 -- does the first stream receive? Nobody is an empty part, where 3, 4 or 7 would be met
 abbrev pub first_of : Option Received → Maybe Bool

@@ -6,7 +6,7 @@ use Rattle.definitions.specs.Usage.{Usage, nodes}
 use Rattle.definitions.specs.Stream.{memory_of}
 use Rattle.qptr.specs.Values.{Stands}
 use Rattle.qptr.specs.declared.Node.{Node}
-use Rattle.calls.specs.declared.Root.{Root}
+use Rattle.calls.specs.declared.receiver_rule.Root.{Root}
 
 -- the bytes are a usage of n nodes, with this own part
 pub record RootOf (bs : List ℕ) (n : ℕ) (node : Node) : Type 0 where

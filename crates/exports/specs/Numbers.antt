@@ -3,7 +3,7 @@
 use Rattle.std.specs.Prelude.{ℕ, ◌≡◌, Bool, true, false, List, [], ◌∷◌}
 use Rattle.std.proofs.Math.Option.{Option, none as nothing, some}
 use Rattle.definitions.specs.Calls.{Answer, Written}
-use Rattle.serving.specs.Promised.{Promised}
+use Rattle.calls.specs.Promised.{Promised}
 
 -- nobody receives, the first stream or the second
 abbrev pub number_of : Option Bool → ℕ

@@ -117,48 +117,29 @@ module _ {A B C : Type 0} (n k : A → ℕ) (m l : B → ℕ) (next : Setting �
           goes = good_table (body x y) begun ∙ accepted layouts a.1 b.1 left right (omega (arith, a.2, b.2, good.few));
         }
 
--- one stream, as one of two of which nothing is asked of the other
+-- One stream is one of two, of which nothing is asked of the other
 
 abbrev pub none_told : Option Found
 none_told = Some (record { nodes = 0; types = 0 })
 
+abbrev pub nothing_more : Unit {0} → ℕ
+nothing_more u = 0
+
+abbrev pub alone : {A C : Type 0} → (Setting → A → Result C) → Setting → A → Unit {0} → Result C
+alone next st a u = next st a
+
 module _ {A C : Type 0} (n k : A → ℕ) (next : Setting → A → Result C) where
-  abbrev pub one_body : Maybe A → Setting → Result C
-  one_body x st = given 3 x λ a. checked (leb (k a) (length st.table)) (n a) (next st a)
+  abbrev one_body : Maybe A → Setting → Result C
+  one_body x = body n k nothing_more nothing_more (alone next) x (some tt)
 
-  abbrev nothing_more : Unit {0} → ℕ
-  nothing_more u = 0
-
-  as_two : (x : Maybe A) (st : Setting) → one_body x st ≡ body n k nothing_more nothing_more (λ st a u. next st a) x (some tt) st
-  as_two nothing st = refl
-  as_two (some a) st =
-      let bound : max (k a) 0 ≡ k a = omega arith in
-      let nodes : n a + 0 ≡ n a = omega arith in
-      rw (both_within (k a) 0 (length st.table), bound, nodes)
-
-  module _ (table : List ℕ) (work : ℕ) (x : Maybe A) where
-    call_as_two : with_table work table (one_body x) ≡ with_table work table (body n k nothing_more nothing_more (λ st a u. next st a) x (some tt))
-    call_as_two = ap (with_table work table) (fun_ext (as_two x))
-
-    pub one_refused : {places : List ℕ} {e : Refusal} → Met table work (told n k x) none_told places (Err e)
-        → with_table work table (one_body x) ≡ refused (number_of e)
-    one_refused met = call_as_two ∙ refused_by n k nothing_more nothing_more (λ st a u. next st a) table work x (some tt) met
-
-    pub record OneGoing (t : Table) (p : ℕ) : Type 0 where
-      pub first : A
-      pub first_is : x ≡ some first
-      pub first_nodes : p ≡ n first
-      pub first_known : k first ≤ length t
-      pub goes : with_table work table (one_body x) ≡ next (record { table = t }) first
-
-    pub one_goes_on : {places : List ℕ} {both : Nodes} (good : Good table work (told n k x) none_told places both)
-        → OneGoing good.begun.records.layouts both.first
-    one_goes_on good =
-        let two = goes_on n k nothing_more nothing_more (λ st a u. next st a) table work x (some tt) good in
-        record {
-          first = two.first;
-          first_is = two.first_is;
-          first_nodes = two.first_nodes;
-          first_known = two.first_known;
-          goes = call_as_two ∙ two.goes;
-        }
+  -- the types are in the table where their bound is
+  pub as_two : (known : Table → A → Bool) → ((t : Table) (a : A) → known t a ≡ leb (k a) (length t)) → (table : List ℕ) (work : ℕ) (x : Maybe A)
+      → with_table work table (λ st. given 3 x λ a. checked (known st.table a) (n a) (next st a)) ≡ with_table work table (one_body x)
+  as_two known bounded table work x = ap (with_table work table) (fun_ext (each x))
+    where
+      each : (x : Maybe A) (st : Setting) → (given 3 x λ a. checked (known st.table a) (n a) (next st a)) ≡ one_body x st
+      each nothing st = refl
+      each (some a) st =
+          let bound : max (k a) 0 ≡ k a = omega arith in
+          let nodes : n a + 0 ≡ n a = omega arith in
+          rw (bounded st.table a, both_within (k a) 0 (length st.table), bound, nodes)

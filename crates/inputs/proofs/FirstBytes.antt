@@ -41,6 +41,12 @@ module _ (bs : List ℕ) (bytes : Bytes bs) where
   pub first_byte : {x : Top} → top_of bs ≡ some x → get_or bs 0 0 ≡ first_byte_of x
   first_byte {x} e = rw (top_written bs x bytes e).0 (begins x).0
 
+  -- such a first byte is an Opaque's
+  pub opaque_by : {x : Top} → top_of bs ≡ some x → get_or bs 0 0 ≡ 0x08 → (t : ℕ) × (top_of bs ≡ some (opaque t))
+  opaque_by {x = opaque t} e is = (t, e)
+  opaque_by {x = buffer u} e is = absurd (omega (arith, first_byte e))
+  opaque_by {x = memory u} e is = absurd (omega (arith, first_byte e))
+
   pub opaque_bytes : {t w : ℕ} → w ≡ argument_width 0x08 → top_of bs ≡ some (opaque t) → Width w × (1 + w ≤ length bs)
   opaque_bytes {t} width e = rw width (argument_width_lem 0x08, rw (top_written bs (opaque t) bytes e).0 (omega (arith, bytes_length (argument_width 0x08) t)))
 
@@ -52,29 +58,26 @@ module _ (bs : List ℕ) (bytes : Bytes bs) where
 
 module _ (first second : List ℕ) (bytes : Bytes first) (bytes' : Bytes second) where
   pub other_bytes : {w : ℕ} → w ≡ argument_width 0x08 → OpaqueFirst first second → get_or first 0 0 ≡ get_or second 0 0 → Width w × (1 + w ≤ length second)
-  other_bytes {w} width tops same = go tops.other tops.second_is
+  other_bytes width tops same =
+      let other = opaque_by second bytes' tops.second_is (sym same ∙ first_byte first bytes tops.first_is) in
+      opaque_bytes second bytes' width other.1
+
+  -- they conflict where they are not the same Opaque
+
+  differing : ((t s : ℕ) → top_of first ≡ some (opaque t) → top_of second ≡ some (opaque s) → t ≡ s → ⊥) → Conflicts first second true
+  unfolding when◌then◌else◌
+  differing differ = record { of = of }
     where
-      go : (x : Top) → top_of second ≡ some x → Width w × (1 + w ≤ length second)
-      go (opaque t) e = opaque_bytes second bytes' width e
-      go (buffer u) e = absurd (omega (arith, first_byte first bytes tops.first_is, first_byte second bytes' e))
-      go (memory u) e = absurd (omega (arith, first_byte first bytes tops.first_is, first_byte second bytes' e))
+      of : (st : Setting) (t : ℕ) (b : Top) → top_of first ≡ some (opaque t) → top_of second ≡ some b → merge st (opaque t) b ≡ unlike (opaque t)
+      of st t (opaque s) e f = rw (ne_eqb t s (differ t s e f))
+      of st t (buffer u) e f = refl
+      of st t (memory u) e f = refl
 
   pub other_kind : (get_or first 0 0 ≡ get_or second 0 0 → ⊥) → Conflicts first second true
-  other_kind differ = record { of = of }
-    where
-      of : (st : Setting) (t : ℕ) (b : Top) → top_of first ≡ some (opaque t) → top_of second ≡ some b → merge st (opaque t) b ≡ unlike (opaque t)
-      of st t (opaque s) e f = absurd (differ (first_byte first bytes e ∙ sym (first_byte second bytes' f)))
-      of st t (buffer u) e f = refl
-      of st t (memory u) e f = refl
+  other_kind differ = differing (λ t s e f same. differ (first_byte first bytes e ∙ sym (first_byte second bytes' f)))
 
   other_type : {w : ℕ} → w ≡ argument_width 0x08 → (number_at w first 1 ≡ number_at w second 1 → ⊥) → Conflicts first second true
-  unfolding when◌then◌else◌
-  other_type width differ = record { of = of }
-    where
-      of : (st : Setting) (t : ℕ) (b : Top) → top_of first ≡ some (opaque t) → top_of second ≡ some b → merge st (opaque t) b ≡ unlike (opaque t)
-      of st t (opaque s) e f = rw (ne_eqb t s (λ same. differ (opaque_type first bytes width e ∙ same ∙ sym (opaque_type second bytes' width f))))
-      of st t (buffer u) e f = refl
-      of st t (memory u) e f = refl
+  other_type width differ = differing (λ t s e f same. differ (opaque_type first bytes width e ∙ same ∙ sym (opaque_type second bytes' width f)))
 
   same_opaque : {w : ℕ} → w ≡ argument_width 0x08 → get_or first 0 0 ≡ get_or second 0 0 → number_at w first 1 ≡ number_at w second 1 → Conflicts first second false
   unfolding when◌then◌else◌

@@ -16,7 +16,7 @@ use Rattle.stream.specs.Found.{type_bound, type_bound_in, top_bound, bound_of}
 none_within : (n : ℕ) → true ≡ leb 0 n
 none_within n = rw (le-leb 0 n (omega arith))
 
-one_within : (a n : ℕ) → ltb a n ≡ leb (suc a) n
+pub one_within : (a n : ℕ) → ltb a n ≡ leb (suc a) n
 one_within a n = go (ltb a n) refl
   where
     go : (r : Bool) → ltb a n ≡ r → r ≡ leb (suc a) n

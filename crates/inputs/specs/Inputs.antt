@@ -1,6 +1,6 @@
 -- The refusals that a call's streams meet before anything is placed: 1 to 7, but for 6, by what acceptance told of each stream.
 -- Assumes nothing.
-use Rattle.std.specs.Prelude.{ℕ, max, ◌+◌, ◌*◌, ◌≤◌, ◌≡◌, List, [], Option, Some, None, Result as Returned, Ok, Err, IfOk, ltb, length, drop}
+use Rattle.std.specs.Prelude.{ℕ, max, ◌+◌, ◌*◌, ◌<◌, ◌≤◌, ◌≡◌, List, [], Option, Some, None, Result as Returned, Ok, Err, IfOk, MatchResult, ltb, length, drop}
 use Rattle.std.proofs.Math.Option.{Option as Maybe, none as nothing, some}
 use Rattle.definitions.specs.If.{when◌then◌else◌}
 use Rattle.definitions.specs.Limits.{node_limit, work_limit}
@@ -13,6 +13,7 @@ use Rattle.layout.specs.Places.{Found as Records}
 use Rattle.stream.specs.declared.Found.{Found}
 use Rattle.answers.specs.Answers.{number_of}
 use Rattle.answers.specs.declared.Refusal.{Refusal}
+use Rattle.answers.specs.declared.Refusal.TheVariants.{UnknownType, ManyNodes}
 use Rattle.inputs.specs.declared.Nodes.{Nodes}
 
 -- 3, 4, 5 and 7, or 0
@@ -52,6 +53,14 @@ pub record Begun (table : List ℕ) (work : ℕ) (places : List ℕ) (types : �
 pub record TableMet (table : List ℕ) (work : ℕ) (places : List ℕ) (r : Returned ℕ Refusal) : Type 0 where
   pub number : refusal_of r ≡ begin_refusal work (table_of table)
   pub good : IfOk r (λ types. Begun table work places types)
+
+-- 5, where a table of so many types has not all that are needed
+abbrev pub KnownTypes : ℕ → ℕ → Returned (Unit {0}) Refusal → Type 0
+KnownTypes types needed r = MatchResult r (λ u. needed ≤ types) (λ e. (e ≡ UnknownType) × (types < needed))
+
+-- 7, where there are too many nodes
+abbrev pub FewNodes : ℕ → Returned (Unit {0}) Refusal → Type 0
+FewNodes n r = MatchResult r (λ u. n ≤ node_limit) (λ e. (e ≡ ManyNodes) × (node_limit < n))
 
 -- no refusal: the table's records stand at these places, and the streams have so many nodes, few enough, with types of the table
 pub record Good (table : List ℕ) (work : ℕ) (a b : Option Found) (places : List ℕ) (n : Nodes) : Type 0 where

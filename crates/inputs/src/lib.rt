@@ -4,7 +4,7 @@
 
 ghost use Rattle.std.specs.Prelude.{◌≡◌, length};
 ghost use Rattle.layout.specs.Places.{Room};
-ghost use Rattle.inputs.specs.Inputs.{TableMet, Met, Both, BothLoaded};
+ghost use Rattle.inputs.specs.Inputs.{TableMet, KnownTypes, FewNodes, Met, Both, BothLoaded};
 ghost use Rattle.inputs.specs.Tops.{OpaqueFirst, Conflicts};
 
 use answers::Refusal;
@@ -15,7 +15,7 @@ use stream::Found;
 // The bytes of a work area, and the nodes of all inputs together: `work_limit` and `node_limit`, which the contracts hold them to.
 pub const WORK: usize = 49152;
 
-pub const NODES: usize = 512;
+const NODES: usize = 512;
 
 // The nodes of a call's streams.
 #[derive(Clone, Copy)]
@@ -35,8 +35,28 @@ pub fn accept_table(table: &[u8], work: &[u8], places: &mut [u32]) -> Result<usi
     layout::accept(table, places).ok_or(Refusal::BadTable)
 }
 
-// The refusals 1 to 7 in their order, but for 6. One more than a type may need 33 bits, so types are compared in 64, by `as`, since no From
-// leads from `usize`.
+// Refusal 5, where a table of so many types has not all that are needed. One more than a type may need 33 bits, so they are compared in 64, by
+// `as`, since no From leads from `usize`.
+pub fn known_types(types: usize, needed: u64) -> Result<(), Refusal>
+    ensures { KnownTypes types needed result }
+{
+    if (types as u64) < needed {
+        return Err(Refusal::UnknownType);
+    }
+    Ok(())
+}
+
+// Refusal 7, where all inputs together have too many nodes.
+pub fn few_nodes(nodes: usize) -> Result<(), Refusal>
+    ensures { FewNodes nodes result }
+{
+    if NODES < nodes {
+        return Err(Refusal::ManyNodes);
+    }
+    Ok(())
+}
+
+// The refusals 1 to 7 in their order, but for 6.
 pub fn accept(
     table: &[u8],
     work: &[u8],
@@ -50,12 +70,8 @@ pub fn accept(
     let types = accept_table(table, work, places)?;
     let first = a.ok_or(Refusal::BadFirst)?;
     let second = b.ok_or(Refusal::BadSecond)?;
-    if (types as u64) < first.types.max(second.types) {
-        return Err(Refusal::UnknownType);
-    }
-    if NODES < first.nodes.saturating_add(second.nodes) {
-        return Err(Refusal::ManyNodes);
-    }
+    known_types(types, first.types.max(second.types))?;
+    few_nodes(first.nodes.saturating_add(second.nodes))?;
     Ok(Nodes {
         first: first.nodes,
         second: second.nodes,

@@ -21,16 +21,22 @@ returns-in_err-second c =
     let none = c.in_err-second.ensures.ok_part in
     rw (p.1, p.2, told_as c.args.b c.in_err-second.ensures.value none) (meets_4 c.in_ok-types.ensures.good c.in_ok-first.ensures.ok_part none)
 
-pub returns-then-types-max : goal.returns-then-types-max
-returns-then-types-max c =
-    meets_5 c.in_ok-types.ensures.good c.in_ok-first.ensures.ok_part c.in_ok-second.ensures.ok_part (omega (arith, c.max.ensures, c.if-types-max.true))
+pub returns-in_err-known_types : goal.returns-in_err-known_types
+returns-in_err-known_types c =
+    let p = err_from_is_err_and c.from_residual-in_err-known_types.result c.from_residual-in_err-known_types.ensures.1 in
+    let unknown = c.in_err-known_types.ensures in
+    rw (p.1, p.2, unknown.0)
+    (meets_5 c.in_ok-types.ensures.good c.in_ok-first.ensures.ok_part c.in_ok-second.ensures.ok_part (omega (arith, c.max.ensures, unknown.1)))
 
-pub returns-then-saturating_add-gt-NODES : goal.returns-then-saturating_add-gt-NODES
-returns-then-saturating_add-gt-NODES c =
-    meets_7 c.in_ok-types.ensures.good c.in_ok-first.ensures.ok_part c.in_ok-second.ensures.ok_part (omega (arith, c.max.ensures, c.if-types-max.false))
-    (omega arith)
+pub returns-in_err-few_nodes : goal.returns-in_err-few_nodes
+returns-in_err-few_nodes c =
+    let p = err_from_is_err_and c.from_residual-in_err-few_nodes.result c.from_residual-in_err-few_nodes.ensures.1 in
+    let many = c.in_err-few_nodes.ensures in
+    rw (p.1, p.2, many.0)
+    (meets_7 c.in_ok-types.ensures.good c.in_ok-first.ensures.ok_part c.in_ok-second.ensures.ok_part (omega (arith, c.max.ensures, c.in_ok-known_types.ensures))
+    (omega (arith, many.1)))
 
 pub returns : goal.returns
 returns c =
-    meets_none c.in_ok-types.ensures.good c.in_ok-first.ensures.ok_part c.in_ok-second.ensures.ok_part (omega (arith, c.max.ensures, c.if-types-max.false))
-    (omega arith)
+    meets_none c.in_ok-types.ensures.good c.in_ok-first.ensures.ok_part c.in_ok-second.ensures.ok_part (omega (arith, c.max.ensures, c.in_ok-known_types.ensures))
+    (omega (arith, c.in_ok-few_nodes.ensures))

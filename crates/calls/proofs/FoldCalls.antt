@@ -1,0 +1,88 @@
+-- What the call of `fold` gives back is what it is defined to: the refusal that was met, or what folding the list's nodes came to.
+-- Assumes nothing.
+use Prim.Native.Nat.{ℕ}
+use mathlib.Core.Path.{◌≡◌, ap, ◌∙◌}
+use mathlib.Core.List.{List, ◌∷◌}
+use mathlib.Core.Option.{some}
+use native.Mathlib.Omega.{arith}
+use borrow.Author.Tests.{le-leb}
+use lib.ListN.{length, take}
+use Rattle.std.specs.Prelude.{Option, Result as Returned}
+use Rattle.definitions.specs.Limits.{work_limit}
+use Rattle.definitions.specs.Usage.{memory, Nodes as Listed, all_nodes}
+use Rattle.definitions.specs.Stream.{write_top, list_of}
+use Rattle.definitions.specs.Table.{Setting}
+use Rattle.definitions.specs.Place.{Result, under, fold}
+use Rattle.definitions.specs.Calls.{given, all_types_in, written, fold_call}
+use Rattle.definitions.proofs.Written.{Bytes}
+use Rattle.definitions.proofs.ReadsBack.{list_storable}
+use Rattle.stream.specs.Found.{all_bound, told}
+use Rattle.stream.specs.declared.Found.{Found}
+use Rattle.layout.specs.Places.{Holds}
+use Rattle.layout.specs.declared.table.Table.{Table}
+use Rattle.layout.proofs.Uses.{known as known_table}
+use Rattle.report.specs.declared.Report.{Report}
+use Rattle.place_states.specs.declared.SizeRefusal.{SizeRefusal}
+use Rattle.place_states.specs.declared.Merged.{Merged}
+use Rattle.inputs.specs.Inputs.{Good}
+use Rattle.answers.specs.Writing.{Gives, Reachable, Finished}
+use Rattle.folding.specs.Folding.{Foldable, FoldReady, AllFolded}
+use Rattle.answers.specs.declared.Refusal.{Refusal}
+use Rattle.answers.specs.declared.Written.{Written}
+use Rattle.inputs.specs.declared.Nodes.{Nodes}
+use Rattle.calls.specs.Loaded.{ListGiven}
+use Rattle.calls.proofs.Lent.{area_lent}
+use Rattle.inputs.proofs.Types.{all_types_in_lem}
+use Rattle.inputs.proofs.Accepting.{none_told, nothing_more, alone, as_two, Going, goes_on}
+use Rattle.calls.proofs.Calling.{Call, call_goes}
+
+-- what is told of a list
+abbrev pub told_list : List ℕ → Option Found
+told_list bs = told all_nodes all_bound (list_of bs)
+
+abbrev folded : Setting → Listed → Result (List ℕ)
+folded st ns = under (λ u. write_top (memory u)) (fold st ns)
+
+module _ (table : List ℕ) (work : ℕ) (list : List ℕ) where
+  pub fold_is : (output : List ℕ) (n : ℕ)
+      → Call all_nodes all_bound nothing_more nothing_more (alone folded) table work (list_of list) (some tt) (written output n) (fold_call table work list output n)
+  unfolding fold_call
+  fold_is output n = record { is = ap (written output n) (as_two all_nodes all_bound folded (λ t ns. all_types_in t (ns.first ∷ ns.others)) (λ t ns. all_types_in_lem t (ns.first ∷ ns.others)) table work (list_of list)) }
+
+  module _ {places : List ℕ} where
+    module _ {n : Nodes} (good : Good table work (told_list list) none_told places n) (bytes : Bytes list) {lent : Table} (holds : Holds lent table places good.types) where
+      abbrev setting : Setting
+      setting = record { table = good.begun.records.layouts }
+
+      going : Going all_nodes all_bound nothing_more nothing_more (alone folded) table work (list_of list) (some tt) setting.table n.first n.second
+      going = goes_on all_nodes all_bound nothing_more nothing_more (alone folded) table work (list_of list) (some tt) good
+
+      foldable : Foldable lent list setting going.first
+      foldable =
+          let ns = going.first in
+          record {
+            known = known_table good.begun.records holds;
+            is = going.first_is;
+            fits =
+                list_storable setting.table list bytes ns going.first_is
+                (all_types_in_lem setting.table (ns.first ∷ ns.others) ∙ le-leb (all_bound ns) (length setting.table) going.first_known);
+            few = omega (arith, going.first_nodes, good.few);
+          }
+
+      pub fold_ready : {k : ℕ} → k ≡ work_limit → (area : List ℕ) → length area ≡ work → FoldReady lent list (take k area)
+      fold_ready asked area same =
+          record { setting = setting; listed = going.first; foldable = foldable; area = area_lent asked area same good.begun.enough }
+
+      pub fold_given : (output rep : List ℕ) {r : Returned Written Refusal} {output' rep' : List ℕ} → ListGiven lent list output rep r output' rep'
+          → Gives (fold_call table work list output (length rep)) r output' rep'
+      fold_given output rep given = rw (call_goes (fold_is output (length rep)) going) (given.of setting going.first foldable)
+
+-- what was folded is given back
+module _ {table : Table} {list work : List ℕ} (ready : FoldReady table list work) {work' : List ℕ} {rep rep' : Report} where
+  pub fold_reached : {m : Returned Merged SizeRefusal} → AllFolded table list work' rep rep' m → Reachable work' m rep'
+  fold_reached all = record { result = fold ready.setting ready.listed; reached = all.of ready.setting ready.listed ready.foldable }
+
+  pub list_given : {m : Returned Merged SizeRefusal} → AllFolded table list work' rep rep' m → {output report : List ℕ} {r : Returned Written Refusal} {output' : List ℕ} {rep₃ : Report} {report' : List ℕ}
+      → length rep'.buffer.now ≡ length report → report' ≡ rep₃.buffer.now → Finished Gives 0x0A m work' output rep' r output' rep₃
+      → ListGiven table list output report r output' report'
+  list_given all long same finished = record { of = λ st ns foldable. rw (← long, same) (finished.of (fold st ns) (all.of st ns foldable)) }
