@@ -21,12 +21,9 @@ use Rattle.stream.specs.declared.Found.{Found}
 use Rattle.layout.specs.Places.{Holds}
 use Rattle.layout.specs.declared.table.Table.{Table}
 use Rattle.layout.proofs.Uses.{known as known_table}
-use Rattle.report.specs.declared.Report.{Report}
-use Rattle.place_states.specs.declared.SizeRefusal.{SizeRefusal}
-use Rattle.place_states.specs.declared.Merged.{Merged}
 use Rattle.inputs.specs.Inputs.{Good}
-use Rattle.answers.specs.Writing.{Gives, Reachable, Finished}
-use Rattle.folding.specs.Folding.{Foldable, FoldReady, AllFolded}
+use Rattle.answers.specs.Writing.{Gives}
+use Rattle.folding.specs.Folding.{Foldable, FoldReady}
 use Rattle.answers.specs.declared.Refusal.{Refusal}
 use Rattle.answers.specs.declared.Written.{Written}
 use Rattle.inputs.specs.declared.Nodes.{Nodes}
@@ -76,13 +73,3 @@ module _ (table : List ℕ) (work : ℕ) (list : List ℕ) where
       pub fold_given : (output rep : List ℕ) {r : Returned Written Refusal} {output' rep' : List ℕ} → ListGiven lent list output rep r output' rep'
           → Gives (fold_call table work list output (length rep)) r output' rep'
       fold_given output rep given = rw (call_goes (fold_is output (length rep)) going) (given.of setting going.first foldable)
-
--- what was folded is given back
-module _ {table : Table} {list work : List ℕ} (ready : FoldReady table list work) {work' : List ℕ} {rep rep' : Report} where
-  pub fold_reached : {m : Returned Merged SizeRefusal} → AllFolded table list work' rep rep' m → Reachable work' m rep'
-  fold_reached all = record { result = fold ready.setting ready.listed; reached = all.of ready.setting ready.listed ready.foldable }
-
-  pub list_given : {m : Returned Merged SizeRefusal} → AllFolded table list work' rep rep' m → {output report : List ℕ} {r : Returned Written Refusal} {output' : List ℕ} {rep₃ : Report} {report' : List ℕ}
-      → length rep'.buffer.now ≡ length report → report' ≡ rep₃.buffer.now → Finished Gives 0x0A m work' output rep' r output' rep₃
-      → ListGiven table list output report r output' report'
-  list_given all long same finished = record { of = λ st ns foldable. rw (← long, same) (finished.of (fold st ns) (all.of st ns foldable)) }

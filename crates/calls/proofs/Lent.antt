@@ -2,7 +2,7 @@
 -- is a law over plain variables, so that a proof that cites it does not go through all that is known there.
 -- Assumes nothing.
 use Prim.Native.Nat.{ℕ, ◌≤◌}
-use mathlib.Core.Path.{◌≡◌, sym, ◌∙◌}
+use mathlib.Core.Path.{◌≡◌, ◌∙◌}
 use mathlib.Core.List.{List}
 use native.Mathlib.Omega.{arith}
 use lib.ListN.{length, take}
@@ -18,9 +18,6 @@ use Rattle.inputs.specs.declared.Nodes.{Nodes}
 module _ {k : ℕ} (asked : k ≡ work_limit) (work : List ℕ) {n : ℕ} (same : length work ≡ n) (enough : work_limit ≤ n) where
   pub area_within : k ≤ length work
   area_within = omega arith
-
-  pub area_counted : k ≡ length (take k work)
-  area_counted = sym (length-take-le k work area_within)
 
   pub area_lent : length (take k work) ≡ work_limit
   area_lent = length-take-le k work area_within ∙ asked

@@ -19,9 +19,9 @@ use Rattle.definitions.specs.Table.{Setting, layout_of, is_concrete}
 use Rattle.definitions.specs.Place.{done}
 use Rattle.definitions.specs.Support.{supports}
 use Rattle.definitions.specs.Calls.{refuse_if, refusal, said, supports_call}
-use Rattle.layout.specs.Places.{InTable, Holds, Says}
+use Rattle.layout.specs.Places.{Holds, Says}
 use Rattle.layout.specs.declared.table.Table.{Table}
-use Rattle.layout.proofs.Uses.{known, table_type}
+use Rattle.layout.proofs.Uses.{known}
 use Rattle.transfer_in.specs.Loading.{Loaded, itself}
 use Rattle.support.specs.Known.{Askable}
 use Rattle.support.specs.Answers.{Supports}
@@ -66,9 +66,6 @@ module _ {table places : List ℕ} {work k : ℕ} (t : Begun table work places k
 
       known_is : leb (max (suc ty) b) k ≡ true
       known_is = le-leb (max (suc ty) b) k (omega arith)
-
-      pub in_table : InTable lent ty
-      in_table = table_type ty t.records holds below
 
       module _ {r : Bool} (says : Says is_concrete lent ty r) where
         concrete_is : is_concrete (layout_of t.records.layouts ty) ≡ r

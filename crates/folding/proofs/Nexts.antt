@@ -78,9 +78,6 @@ module _ {table : Table} {list : List ℕ} {f : Folded} {work : List ℕ} {rep :
           | no le ↦ absurd (omega (arith, B.fresh i (omega arith)))
         ]
 
-    pub next_free : f.free + next.nodes ≤ 65536
-    next_free = omega (arith, ready.room, loaded.counted ready.b ready.rest ready.beside.reads)
-
     pub next_merges : Ready table work₁ f.result.node f.free
     next_merges = ready_two ready.setting (next_two ready.setting ready.a ready.b ready.rest ready.beside) ready.beside.known (omega (arith, ready.area))
 

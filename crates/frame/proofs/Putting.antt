@@ -1,12 +1,9 @@
 -- Bytes put behind one another: each is a store, which changes nothing else.
 -- Assumes nothing.
-use Rattle.std.proofs.Common.{◌≡◌, ℕ, ◌+◌, ◌^◌, ◌<◌, List, [], ◌++◌, length, refl, ◌∙◌, arith, length-append}
-use Rattle.report.proofs.Emitting.{emitted_nothing, emitted_after}
+use Rattle.std.proofs.Common.{◌≡◌, ℕ, ◌+◌, List, ◌++◌, length, ◌∙◌, arith, length-append}
+use Rattle.report.proofs.Emitting.{emitted_after}
 use Rattle.frame.specs.declared.Writer.{Writer}
-use Rattle.frame.specs.Put.{as_report, Put}
-
-pub put_nothing : (w : Writer) → w.at < 2 ^ 64 → Put w [] w
-put_nothing w h = record { emitted = emitted_nothing (as_report w) h; behind = λ _ i le. refl }
+use Rattle.frame.specs.Put.{Put}
 
 pub put_after : {w w₁ w₂ : Writer} {xs ys : List ℕ} → Put w xs w₁ → Put w₁ ys w₂ → Put w (xs ++ ys) w₂
 put_after {w} {w₁} {w₂} {xs} {ys} A B =

@@ -1,6 +1,6 @@
 -- A writer's bytes, one behind another.
 -- Assumes nothing.
-use Rattle.std.proofs.Common.{◌≡◌, ℕ, ◌+◌, ◌/◌, ◌%◌, ◌^◌, ◌<◌, ◌≤◌, List, [], ◌∷◌, ◌++◌, length, get_or, take, refl, add-one, arith, take_all, take-suc}
+use Rattle.std.proofs.Common.{◌≡◌, ℕ, ◌+◌, ◌/◌, ◌%◌, ◌^◌, ◌<◌, ◌≤◌, List, [], ◌∷◌, ◌++◌, length, get_or, take, refl, add-one, arith, take-suc}
 use native.Mathlib.Decide.{dec_lt, ℕ_discrete}
 use Rattle.std.proofs.Common.{suc, zero, lt-ltb, le-ltb}
 use Rattle.std.specs.Fmt.{decimal}
@@ -22,12 +22,6 @@ pub put_digits_more : (w w₁ w₂ w₃ : Writer) (s : List ℕ) (i b x y : ℕ)
     → x ≡ hex_digit (b / 16) → Put w₁ (x ∷ []) w₂ → y ≡ hex_digit (b % 16) → Put w₂ (y ∷ []) w₃ → Put w (hex_digits (take (i + 1) s)) w₃
 put_digits_more w w₁ w₂ w₃ s i b x y A h e ex X ey Y =
     rw (add-one i, take-suc s i 0 h, hex_append, ← e, ← ex, ← ey) (put_after A (put_after X Y))
-
-pub put_all : (w w₁ : Writer) (s : List ℕ) (i : ℕ) → Put w (take i s) w₁ → length s ≤ i → Put w s w₁
-put_all w w₁ s i A h = rw (take_all i s h) at A
-
-pub put_digits_all : (w w₁ : Writer) (s : List ℕ) (i : ℕ) → Put w (hex_digits (take i s)) w₁ → length s ≤ i → Put w (hex_digits s) w₁
-put_digits_all w w₁ s i A h = rw (take_all i s h) at A
 
 -- the library's digits of a number are the definitions', as long as there are no more than `most`
 decimal_digits : (most n : ℕ) → 1 ≤ most → n < 10 ^ most → n < 2 ^ 64 → decimal n ≡ digits_in most n

@@ -6,19 +6,11 @@ use mathlib.Core.List.{List, []}
 use native.Mathlib.Omega.{arith}
 use lib.ListN.{length}
 use Rattle.links.proofs.Stands.{stands_still}
-use Rattle.transfer_in.specs.Loading.{Loadable, Loaded, itself}
-use Rattle.inputs.specs.Inputs.{Both, BothLoaded}
+use Rattle.transfer_in.specs.Loading.{Loaded, itself}
+use Rattle.inputs.specs.Inputs.{BothLoaded}
 use Rattle.inputs.specs.declared.Nodes.{Nodes}
 
 module _ {first second : List ℕ} {n : Nodes} {work : List ℕ} where
-  pub left_loadable : Both first second n work → Loadable first 1 n.first work 1
-  left_loadable both =
-      record { usage = both.a; rest = []; reads = both.left_reads; many = both.left_nodes; some = omega arith; inside = omega (arith, both.inside); few = omega (arith, both.few) }
-
-  pub right_loadable : Both first second n work → {work₁ : List ℕ} → length work₁ ≡ length work → Loadable second 1 n.second work₁ (1 + n.first)
-  right_loadable both same =
-      record { usage = both.b; rest = []; reads = both.right_reads; many = both.right_nodes; some = omega arith; inside = omega (arith, both.inside); few = omega (arith, both.few) }
-
   pub both_loaded : {work₁ work₂ : List ℕ} {r r₁ : ℕ} → length work₂ ≡ length work₁ → Loaded first 1 work 1 work₁ r → Loaded second 1 work₁ (1 + n.first) work₂ r₁
       → BothLoaded first second n work work₂
   unfolding itself
