@@ -155,38 +155,34 @@ impl Record<'_> {
         }
     }
 
-    fn supports(&self) -> bool
+    fn supports(&self, work: &mut [u8]) -> bool
+        requires { length work.old ≡ word self.now.head.now 1 }
         ensures { result ≡ true → Agrees (lists self.now) 1 }
     {
-        let mut work = zeros::<WORK>();
-        let n = length_at(self.head, WORK_AT);
         let ty = get32(self.head, TYPE_AT);
         let offset = get32(self.head, OFFSET_AT);
-        let got = calls::supports(
-            self.parts.table,
-            &mut work[..n],
-            ty,
-            offset,
-            self.parts.first,
-        );
+        let got = calls::supports(self.parts.table, work, ty, offset, self.parts.first);
         self.answered(Answer::from(got))
     }
 
-    fn sound(&self) -> bool
+    fn sound(&self, work: &mut [u8]) -> bool
+        requires { length work.old ≡ word self.now.head.now 1 }
         ensures { result ≡ true → Agrees (lists self.now) 5 }
     {
-        let mut work = zeros::<WORK>();
-        let n = length_at(self.head, WORK_AT);
-        let got = calls::sound(self.parts.table, &mut work[..n], self.parts.first);
+        let got = calls::sound(self.parts.table, work, self.parts.first);
         self.answered(Answer::from(got))
     }
 
-    fn write(&self, writing: Writing, output: &mut [u8], rep: &mut [u8]) -> Result<Written, Refusal>
+    fn write(
+        &self,
+        writing: Writing,
+        work: &mut [u8],
+        output: &mut [u8],
+        rep: &mut [u8],
+    ) -> Result<Written, Refusal>
+        requires { length work.old ≡ word self.now.head.now 1 }
         ensures { Gives (called (writing_number writing) (lists self.now) output.old (length rep.old)) result output.new rep.new }
     {
-        let mut work = zeros::<WORK>();
-        let n = length_at(self.head, WORK_AT);
-        let work = &mut work[..n];
         let Parts {
             table,
             first,
@@ -216,36 +212,46 @@ impl Record<'_> {
     }
 
     // A call with these buffers, which are as long as is recorded; all that it gives back is compared.
-    fn written(&self, writing: Writing, output: &mut [u8], rep: &mut [u8]) -> bool
-        requires { (word self.now.tail.now 0 ≡ length output.old) × (word self.now.tail.now 5 ≡ length rep.old) }
+    fn written(
+        &self,
+        writing: Writing,
+        work: &mut [u8],
+        output: &mut [u8],
+        rep: &mut [u8],
+    ) -> bool
+        requires { (length work.old ≡ word self.now.head.now 1) × (word self.now.tail.now 0 ≡ length output.old) × (word self.now.tail.now 5 ≡ length rep.old) }
         ensures { result ≡ true → Writes (lists self.now) (writing_number writing) }
     {
         output.fill(self.tail[OUTPUT_FILL_AT]);
         rep.fill(self.tail[REPORT_FILL_AT]);
-        let got = self.write(writing, output, rep);
+        let got = self.write(writing, work, output, rep);
         self.answered(Answer::from(got)) && self.wrote(output, rep)
     }
 
     // Place, merge and fold, with buffers of their own.
-    fn writing(&self, writing: Writing) -> bool
+    fn writing(&self, writing: Writing, work: &mut [u8]) -> bool
+        requires { length work.old ≡ word self.now.head.now 1 }
         ensures { result ≡ true → Writes (lists self.now) (writing_number writing) }
     {
         let mut output = zeros::<BUFFER>();
         let mut rep = zeros::<BUFFER>();
         let m = length_at(self.tail, 0);
         let n = length_at(self.tail, REPORT_AT);
-        self.written(writing, &mut output[..m], &mut rep[..n])
+        self.written(writing, work, &mut output[..m], &mut rep[..n])
     }
 
-    // Does the call give what is recorded?
+    // Does the call give what is recorded? It is lent a work area that is as long as is recorded.
     fn agrees(&self, call: Call) -> bool
         ensures { result ≡ true → Agrees (lists self.now) (number_of call) }
     {
+        let mut work = zeros::<WORK>();
+        let n = length_at(self.head, WORK_AT);
+        let work = &mut work[..n];
         match call {
             Call::Receiver => self.receiver(),
-            Call::Supports => self.supports(),
-            Call::Writing(writing) => self.writing(writing),
-            Call::Sound => self.sound(),
+            Call::Supports => self.supports(work),
+            Call::Writing(writing) => self.writing(writing, work),
+            Call::Sound => self.sound(work),
         }
     }
 }
