@@ -1,10 +1,9 @@
 #!/usr/bin/env bash
 # Proves what C and Rust link, and writes it to target/staticlib/libNAME.a: the calls (exports), or the part of receiver (receiver_part).
 #   bash staticlib.sh [--proved] exports|receiver_part
-# What C calls is the crate exports_c (receiver_part_c); the archive has the name without `_c`, which C callers know. A library that is newer
-# than all that it is made from is left as it is. Else each crate is proved after those that it names, and `rt` keeps what is proved; how far
-# that is goes to standard error, a line a crate. With --proved, for use right after `rt ci` in this checkout, the libraries below are taken
-# as it left them: `rt lib` cannot, and would prove each of them once more.
+# A library that is newer than all that it is made from is left as it is. Else each crate is proved after those that it names, and `rt` keeps
+# what is proved; how far that is goes to standard error, a line a crate. With --proved, for use right after `rt ci` in this checkout, the
+# libraries below are taken as it left them: `rt lib` cannot, and would prove each of them once more.
 set -euo pipefail
 cd "$(dirname "$0")"
 
@@ -15,7 +14,7 @@ if [ "${1:-}" = --proved ]; then
 fi
 name=${1:-}
 case $name in
-  exports | receiver_part) crate=${name}_c ;;
+  exports | receiver_part) ;;
   *)
     echo "staticlib.sh: give exports or receiver_part, not '$name'" >&2
     exit 2
@@ -25,7 +24,7 @@ library=target/staticlib/lib$name.a
 
 # What a line of crates.txt names, and with `all` what those name in turn, each after those that it names.
 libraries() {
-  awk -v crate="$crate" -v all="${1:-}" '
+  awk -v crate="$name" -v all="${1:-}" '
     function add(names, word, n, i) {
       n = split(names, word, " ")
       for (i = 1; i <= n; i++) if (!(word[i] in seen)) { seen[word[i]] = 1; if (all) add(of[word[i]]); print word[i] }
@@ -39,7 +38,7 @@ mapfile -t below < <(libraries all)
 # A folder is newer than what was made before a file was added to it or taken away. What `rt` makes and what only tries the prover is no source.
 is_up_to_date() {
   local it folder sources=(crates.txt staticlib.sh)
-  for it in "${below[@]}" "$crate"; do
+  for it in "${below[@]}" "$name"; do
     for folder in src specs proofs; do
       if [ -d "crates/$it/$folder" ]; then sources+=("crates/$it/$folder"); fi
     done
@@ -69,7 +68,7 @@ prove() {
     echo "failed after $((SECONDS - begun)) s; the last of what rt said:" >&2
     tail -n 40 "$said" >&2
     exit "$status"
-  elif [ "$it" != "$crate" ] && [ ! "crates/$it/out/rlib/stamp" -nt "$said.begun" ]; then
+  elif [ "$it" != "$name" ] && [ ! "crates/$it/out/rlib/stamp" -nt "$said.begun" ]; then
     echo "as it was proved" >&2
   else
     echo "proved in $((SECONDS - begun)) s" >&2
@@ -83,19 +82,19 @@ for it in "${below[@]}"; do
   fi
 done
 
-archive=crates/$crate/out/lib$crate.a
+archive=crates/$name/out/lib$name.a
 rm -f "$archive"
 if [ -n "$proved" ]; then
   kit=$(dirname "$(rt doc)")
-  words=(--crate-name "$crate" src/lib.rt --crate-type staticlib --links "$crate=" -o "out/lib$crate.a" --toolchain "$kit/toolchain" --backend llvm)
+  words=(--crate-name "$name" src/lib.rt --crate-type staticlib --links "$name=" -o "out/lib$name.a" --toolchain "$kit/toolchain" --backend llvm)
   words+=(--antt-project "$kit/rattle/logic/antt-project.json" --logic-built "$kit/logic_built")
   words+=(--extern "std=$kit/rlibs/std.rlib" -L "dependency=$kit/rlibs")
   for it in $(libraries); do words+=(--extern "$it=../$it/out/rlib/$it.rlib"); done
   for it in "${below[@]}"; do words+=(-L "dependency=../$it/out/rlib"); done
-  (cd "crates/$crate" && "$kit/bin/rattle" build "${words[@]}")
+  (cd "crates/$name" && "$kit/bin/rattle" build "${words[@]}")
 else
   at=0
-  for it in "${below[@]}" "$crate"; do
+  for it in "${below[@]}" "$name"; do
     at=$((at + 1))
     prove "$it" "$at"
   done

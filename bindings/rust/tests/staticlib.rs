@@ -30,19 +30,19 @@ echo "of $crate" > "out/lib$crate.a"
 "#;
 
 /// What a library is made of, and in which order.
-const ALL: &str = "low high exports_c";
+const ALL: &str = "low high exports";
 
 struct Repository(PathBuf);
 
 impl Repository {
     fn new(name: &str) -> Repository {
         let here = Repository(env::temp_dir().join(format!("{name}-{}", process::id())));
-        here.write("crates.txt", "high: low # a remark\nexports_c staticlib: high\nlow:\nother:\n");
+        here.write("crates.txt", "high: low # a remark\nexports staticlib: high\nlow:\nother:\n");
         here.write("crates/low/src/lib.rt", "");
         here.write("crates/low/proofs/Lib.antt", "");
         here.write("crates/high/src/lib.rt", "");
         here.write("crates/high/specs/Lib.antt", "");
-        here.write("crates/exports_c/src/lib.rt", "");
+        here.write("crates/exports/src/lib.rt", "");
         here.write("crates/other/src/lib.rt", "");
         here.write("bin/rt", RT);
         fs::set_permissions(here.0.join("bin/rt"), Permissions::from_mode(0o755)).unwrap();
@@ -102,7 +102,7 @@ impl Drop for Repository {
 fn a_library_is_made_once() {
     let here = Repository::new("staticlib-once");
     assert_eq!(here.proved(), ALL);
-    assert_eq!(fs::read_to_string(here.library()).unwrap(), "of exports_c\n");
+    assert_eq!(fs::read_to_string(here.library()).unwrap(), "of exports\n");
     assert_eq!(here.proved(), "");
     fs::remove_file(here.library()).unwrap();
     assert_eq!(here.proved(), ALL);
@@ -119,7 +119,7 @@ fn a_library_older_than_a_source_is_made_again() {
         "crates/low/proofs/Lib.antt",
         "crates/low/proofs/deep/Answers.antt",
         "crates/high/specs/Lib.antt",
-        "crates/exports_c/src/lib.rt",
+        "crates/exports/src/lib.rt",
     ] {
         here.date(source, here.made() + Duration::from_secs(60));
         assert_eq!(here.proved(), ALL, "{source}");
@@ -149,7 +149,7 @@ fn what_is_no_source_may_be_newer() {
         "crates/low/out/lib",
         "crates/low/must-fail/one.edit",
         "crates/other/src/lib.rt",
-        "crates/exports_c/data/one",
+        "crates/exports/data/one",
     ] {
         here.date(file, here.made() + Duration::from_secs(60));
         assert_eq!(here.proved(), "", "{file}");
@@ -164,7 +164,7 @@ fn the_build_script_looks_at_every_source() {
     let mut sources = archive::sources(&here.0);
     sources.sort();
     let expected = [
-        "crates/exports_c/src",
+        "crates/exports/src",
         "crates/high/specs",
         "crates/high/src",
         "crates/low/proofs",
@@ -185,7 +185,7 @@ fn each_crate_is_told() {
     assert_eq!(lines.len(), 4, "{told}");
     assert!(lines[0].starts_with("staticlib: 1 of 3: low, proved in "), "{told}");
     assert!(lines[1].starts_with("staticlib: 2 of 3: high, proved in "), "{told}");
-    assert!(lines[2].starts_with("staticlib: 3 of 3: exports_c, proved in "), "{told}");
+    assert!(lines[2].starts_with("staticlib: 3 of 3: exports, proved in "), "{told}");
     assert!(lines[3].starts_with("staticlib: all 3 in "), "{told}");
     assert_eq!(output.stdout, b"staticlib: target/staticlib/libexports.a\n");
 

@@ -7,13 +7,13 @@ use Rattle.definitions.specs.Usage.{Usage, nodes}
 use Rattle.definitions.specs.Table.{Setting}
 use Rattle.definitions.specs.Place.{Result, refused, place}
 use Rattle.layout.specs.declared.table.Table.{Table}
-use Rattle.layout.specs.Places.{Known}
-use Rattle.links.specs.Rows.{chain, nodes_at}
-use Rattle.place_states.specs.Calls.{Two, Ready, Near, Linkable, Ground, Done, ground, placing, merging, Placed}
-use Rattle.place_states.specs.Beyond.{Beyond, entries, element, joins, heading, entry_head, resume, act, outer}
+use Rattle.layout.specs.Located.{Known}
+use Rattle.record_links.specs.Rows.{chain, nodes_at}
+use Rattle.place_states.specs.Calls.{Two, Ready, NoWrap, Linkable, Ground, Done, ground, placing, merging, Placed}
+use Rattle.place_states.specs.Continuation.{Continuation, entries, element, joins, heading, entry_head, resume, act, outer}
 use Rattle.report.specs.declared.Report.{Report}
 use Rattle.place_states.specs.Refusals.{number_of}
-use Rattle.place_states.specs.Ends.{merged_of}
+use Rattle.place_states.specs.Finished.{merged_of}
 use Rattle.place_states.specs.States.{Pending, Next, Short, Waiting, turns}
 use Rattle.place_states.specs.Starts.{Began}
 use Rattle.place_states.specs.declared.State.{State}
@@ -27,10 +27,10 @@ use Rattle.report.proofs.Emitting.{kept_both, kept_emitted}
 use Rattle.place_states.proofs.Answering.{done_ok, done_err, refused_done, done_kept}
 use Rattle.place_states.proofs.Room.{place_short}
 use Rattle.place_states.proofs.Starting.{ready_two, two_nodes}
-use Rattle.place_rules.specs.Settling.{Settled}
-use Rattle.place_rules.proofs.Settling.{settled_next}
+use Rattle.place_rules.specs.Results.{TakesResult}
+use Rattle.place_rules.proofs.TakingResults.{result_next}
 use Rattle.analyze.proofs.Waits.{outside_chain}
-use Rattle.analyze.proofs.Pairs.{pair_ground, gave, took}
+use Rattle.analyze.proofs.Pairs.{pair_ground, gave, has_result}
 
 -- each state stands for whatever the first one stood for
 pub record Loop (table : Table) (s₀ : List ℕ) (rep₀ : Report) (st₀ : State) (at a : ℕ) (s : List ℕ) (rep : Report) (st : State) : Type 0 where
@@ -42,7 +42,7 @@ pub record Loop (table : Table) (s₀ : List ℕ) (rep₀ : Report) (st₀ : Sta
 abbrev pub acting : Pairing → ℕ → Setting → Usage → Usage → Result Usage
 acting how d setting t u = act setting how d t u
 
-resume_refused : (setting : Setting) (y : Beyond) (o : ℕ) (w : List ℕ) (p k : ℕ) → resume setting y o w p (refused k) ≡ refused k
+resume_refused : (setting : Setting) (y : Continuation) (o : ℕ) (w : List ℕ) (p k : ℕ) → resume setting y o w p (refused k) ≡ refused k
 unfolding resume
 resume_refused setting y o w p k = refl
 
@@ -53,7 +53,7 @@ begun_refused {s} {rep} {d} {e} B = record {
   done = λ setting known t u r lo mid hi two. refused_done (place setting t d u) (ground _ r lo hi _) s e rep (B.next setting known t u r lo mid hi two);
 }
 
-module _ {table : Table} {sₑ s₀ s : List ℕ} {repₑ rep₀ rep : Report} {a d b : ℕ} {st₀ st : State} (R : Ready table sₑ a b) (near : Near repₑ.at (nodes_at sₑ a + nodes_at sₑ b))
+module _ {table : Table} {sₑ s₀ s : List ℕ} {repₑ rep₀ rep : Report} {a d b : ℕ} {st₀ st : State} (R : Ready table sₑ a b) (near : NoWrap repₑ.at (nodes_at sₑ a + nodes_at sₑ b))
     (B : Began table sₑ a d b repₑ s₀ rep₀ (Ok st₀)) (L : Loop table s₀ rep₀ st₀ repₑ.at a s rep st) where
   low : repₑ.at ≤ 2 ^ 62
   low = omega arith
@@ -123,7 +123,7 @@ module _ {table : Table} {sₑ s₀ s : List ℕ} {repₑ rep₀ rep : Report} {
     pair_less : nodes_at s st.x + nodes_at s st.m < nodes_at sₑ a + nodes_at sₑ b
     pair_less = omega (arith, two_nodes R.two, two_nodes pending.two, pending.within, outer_some pending.y)
       where
-        outer_some : (y : Beyond) → 1 ≤ outer y
+        outer_some : (y : Continuation) → 1 ≤ outer y
         outer_some (entries es) = omega arith
         outer_some (element z n) = omega arith
         outer_some (joins z low mid high o) = omega arith
@@ -131,16 +131,16 @@ module _ {table : Table} {sₑ s₀ s : List ℕ} {repₑ rep₀ rep : Report} {
     pair_ready : length s₀ ≡ length sₑ → Ready table s st.x st.m
     pair_ready l = ready_two R.setting pending.two R.known (linkable l)
 
-    headed : (y : Beyond) (w : List ℕ) (o : ℕ) → length ((heading y ++ w) ++ entry_head y o) ≤ length w + 6
+    headed : (y : Continuation) (w : List ℕ) (o : ℕ) → length ((heading y ++ w) ++ entry_head y o) ≤ length w + 6
     headed (entries es) w o = omega (arith, length-append (0x30 ∷ w) (entry_head (entries es) o))
     headed (element z n) w o = omega (arith, length-append w [])
     headed (joins z low mid high e) w o = omega (arith, length-append (0x30 ∷ w) (entry_head (joins z low mid high e) o))
 
-    pair_near : Near rep.at (nodes_at s st.x + nodes_at s st.m)
+    pair_near : NoWrap rep.at (nodes_at s st.x + nodes_at s st.m)
     pair_near = let Q = pending in omega (arith, near, pair_less, Q.report.place, headed Q.y Q.w Q.o, Q.brief, Q.room)
 
     -- what the call for the pair is asked
-    pub pair_asked : length s₀ ≡ length sₑ → (nodes_at s st.x + nodes_at s st.m < nodes_at sₑ a + nodes_at sₑ b) × Ready table s st.x st.m × Near rep.at (nodes_at s st.x + nodes_at s st.m)
+    pub pair_asked : length s₀ ≡ length sₑ → (nodes_at s st.x + nodes_at s st.m < nodes_at sₑ a + nodes_at sₑ b) × Ready table s st.x st.m × NoWrap rep.at (nodes_at s st.x + nodes_at s st.m)
     pair_asked l = (pair_less, pair_ready l, pair_near)
 
 -- Turns
@@ -149,7 +149,7 @@ module _ {table : Table} {s₀ s : List ℕ} {rep₀ rep : Report} {st₀ st : S
   -- the call's answer is what the state asks for
   module _ {how : Pairing} (asks : st.todo ≡ Pair how) (near : at ≤ 2 ^ 62) {s₂ : List ℕ} {rep₂ rep₃ : Report} {r : Merged}
       (P : Placed (acting how st.d) table s st.x st.m s₂ (Ok r) rep rep₂)
-      {st' : State} (D : Settled st rep.at r rep₂ rep₃ st') (d-fits : st'.d ≤ max32) where
+      {st' : State} (D : TakesResult st rep.at r rep₂ rep₃ st') (d-fits : st'.d ≤ max32) where
     was-fits : st.d ≤ max32
     was-fits = omega (arith, ap (λ (x : State). x.d) D.state)
 
@@ -161,7 +161,7 @@ module _ {table : Table} {s₀ s : List ℕ} {rep₀ rep : Report} {st₀ st : S
     loop_again ls = record {
       len = ls ∙ L.len;
       next = λ setting known goal g n base short N.
-          let Q = next_pair (L.next setting known goal g n base short N) asks in settled_next D (took Q s₂ rep₂ r was-fits (omega arith) (done_pair setting known Q));
+          let Q = next_pair (L.next setting known goal g n base short N) asks in result_next D (has_result Q s₂ rep₂ r was-fits (omega arith) (done_pair setting known Q));
     }
 
     -- what comes after is linked as before

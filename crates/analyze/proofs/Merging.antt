@@ -9,19 +9,19 @@ use Rattle.definitions.specs.Usage.{Usage, unused, leaf, map, array, none, size}
 use Rattle.definitions.specs.Command.{head_of, strictness}
 use Rattle.definitions.specs.Table.{Setting}
 use Rattle.definitions.specs.Place.{Result, refused, done, place, merge_mem, first_receives}
-use Rattle.qptr.specs.Values.{Stands as IsNode, Receives}
+use Rattle.qptr.specs.Values.{OwnPart as IsNode, Receives}
 use Rattle.qptr.specs.declared.Node.{Node}
-use Rattle.links.specs.Standing.{Root}
-use Rattle.links.specs.Ranks.{rotated}
-use Rattle.links.proofs.Stands.{stands_root, stands_le}
-use Rattle.links.proofs.Frames.{kept_trans}
-use Rattle.links.proofs.Ranks.{rot_kept, rot_left, rot_right}
+use Rattle.record_links.specs.Standing.{Root}
+use Rattle.record_links.specs.Ranks.{rotated}
+use Rattle.record_links.proofs.Stands.{stands_root, stands_le}
+use Rattle.record_links.proofs.Frames.{kept_trans}
+use Rattle.record_links.proofs.Ranks.{rot_kept, rot_left, rot_right}
 use Rattle.place_states.specs.Calls.{Two, Ready, Done, ground, placing, merging, Placed}
 use Rattle.place_states.proofs.Starting.{ready_two}
 use Rattle.report.specs.declared.Report.{Report}
 use Rattle.place_states.specs.declared.Merged.{Merged}
 use Rattle.place_states.specs.declared.SizeRefusal.{SizeRefusal}
-use Rattle.analyze.specs.Tops.{Top}
+use Rattle.analyze.specs.Roots.{RootNode}
 
 -- with nothing but a size and a command
 abbrev bare : Usage → Usage
@@ -45,7 +45,7 @@ bare_strictness (array z n e) = refl
 bare_receives : (u v : Usage) → first_receives (bare u) (bare v) ≡ first_receives u v
 bare_receives u v = rw (bare_size u, bare_size v, bare_strictness u, bare_strictness v)
 
-bare_stands : (u : Usage) {s : List ℕ} {q : ℕ} {r : ℕ → ℕ} {lo hi : ℕ} {x : Node} → Root s q r lo hi (head_of u).command (size u) → Top s q x → IsNode x (bare u)
+bare_stands : (u : Usage) {s : List ℕ} {q : ℕ} {r : ℕ → ℕ} {lo hi : ℕ} {x : Node} → Root s q r lo hi (head_of u).command (size u) → RootNode s q x → IsNode x (bare u)
 bare_stands (unused z) H T = T.part ∙ rw (H.command, H.size) refl
 bare_stands (leaf z true t) H T = T.part ∙ rw (H.command, H.size) refl
 bare_stands (leaf z false t) H T = T.part ∙ rw (H.command, H.size) refl
@@ -53,7 +53,7 @@ bare_stands (map z es) H T = T.part ∙ rw (H.command, H.size) refl
 bare_stands (array z n e) H T = T.part ∙ rw (H.command, H.size) refl
 
 module _ {k : ℕ} {s : List ℕ} {a b : ℕ} {r : ℕ → ℕ} {lo mid hi : ℕ} {t u : Usage} (two : Two k s a b r lo mid hi t u) where
-  roots_receive : {x y : Node} {f : Bool} → Top s a x → Top s b y → Receives x y f → f ≡ first_receives t u
+  roots_receive : {x y : Node} {f : Bool} → RootNode s a x → RootNode s b y → Receives x y f → f ≡ first_receives t u
   roots_receive X Y R =
       R.of (bare t) (bare u) (bare_stands t (stands_root t s a r lo mid two.left) X) (bare_stands u (stands_root u s b r mid hi two.right) Y)
       ∙ bare_receives t u
@@ -100,13 +100,13 @@ module _ (s : List ℕ) (r : ℕ → ℕ) (lo mid hi : ℕ) (rep : Report) (s' :
   }
 
 module _ {table : Table} {s : List ℕ} {a b : ℕ} {x y : Node} {f : Bool} {s' : List ℕ} {r : Returned Merged SizeRefusal} {rep rep' : Report} where
-  pub merged_left : Top s a x → Top s b y → Receives x y f → f ≡ true → Placed (placing 0) table s a b s' r rep rep' → Placed merging table s a b s' r rep rep'
+  pub merged_left : RootNode s a x → RootNode s b y → Receives x y f → f ≡ true → Placed (placing 0) table s a b s' r rep rep' → Placed merging table s a b s' r rep rep'
   unfolding placing merging
   merged_left X Y R e P = record {
     done = λ setting known t u rank lo mid hi two. rw (merges_left setting t u (sym (roots_receive two X Y R) ∙ e)) at (P.done setting known t u rank lo mid hi two);
   }
 
-  pub merged_right : Top s a x → Top s b y → Receives x y f → f ≡ false → Placed (placing 0) table s b a s' r rep rep' → Placed merging table s a b s' r rep rep'
+  pub merged_right : RootNode s a x → RootNode s b y → Receives x y f → f ≡ false → Placed (placing 0) table s b a s' r rep rep' → Placed merging table s a b s' r rep rep'
   unfolding placing merging
   merged_right X Y R e P = record {
     done = λ setting known t u rank lo mid hi two.

@@ -12,14 +12,14 @@ use Rattle.definitions.specs.Inner.Pairs.{pairs}
 use Rattle.definitions.proofs.Results.{answered}
 use Rattle.definitions.proofs.Bound.{place_within, merge_mem_within}
 use Rattle.definitions.proofs.Stored.{place_storable, merge_mem_storable}
-use Rattle.links.proofs.Stands.{stands_le}
-use Rattle.links.proofs.Frames.{kept_trans, kept_widen}
+use Rattle.record_links.proofs.Stands.{stands_le}
+use Rattle.record_links.proofs.Frames.{kept_trans, kept_widen}
 use Rattle.report.specs.declared.Report.{Report}
 use Rattle.report.proofs.Emitting.{emitted_after}
 use Rattle.place_states.specs.Calls.{Ground, Answered, Done, ground}
-use Rattle.place_states.specs.Beyond.{Beyond, entries, element, joins, spare, act}
+use Rattle.place_states.specs.Continuation.{Continuation, entries, element, joins, spare, act}
 use Rattle.place_states.specs.States.{Pending}
-use Rattle.place_states.specs.Taking.{Given, Took}
+use Rattle.place_states.specs.PairResult.{PairResult, HasResult}
 use Rattle.place_states.specs.declared.State.{State}
 use Rattle.place_states.specs.declared.Merged.{Merged}
 use Rattle.place_states.specs.declared.Pairing.{Pairing}
@@ -49,7 +49,7 @@ act_gives st k Merge d t u le ht hu q =
     let b = (answered (merge_mem_within st t u) q).1 in
     record { fits = merge_mem_storable st k t u ht hu q; few_nodes = b.few_nodes; paid = b.paid; short = b.short_report }
 
-spare_more : (y : Beyond) (m n : ℕ) → m ≤ n → spare y m ≤ spare y n
+spare_more : (y : Continuation) (m n : ℕ) → m ≤ n → spare y m ≤ spare y n
 spare_more (entries es) m n h = omega (arith, mul-le-mul_right (nodes_in es) h)
 spare_more (element z k) m n h = omega arith
 spare_more (joins z low mid high d) m n h = omega (arith, mul-le-mul_right (nodes_in mid) h)
@@ -61,7 +61,7 @@ module _ {how : Pairing} {setting : Setting} {goal : Result Usage} {g : Ground} 
 
   module _ (Q : Pending how setting goal g n s rep a st) (s₂ : List ℕ) (rep₂ : Report) (m : Merged) (d-fits : st.d ≤ max32) where
     pub gave : {v : Usage} {w : List ℕ} {p : ℕ} → act setting how st.d Q.t Q.u ≡ done v w p → Answered v w p (pair_ground Q) s₂ m rep₂
-        → Given (length setting.table) Q.y Q.o Q.w Q.p g n v w p s₂ rep₂ a st m
+        → PairResult (length setting.table) Q.y Q.o Q.w Q.p g n v w p s₂ rep₂ a st m
     gave {v} is D =
         let G = act_gives setting (length setting.table) how st.d Q.t Q.u d-fits Q.two.left_fits Q.two.right_fits is in
         let I = outside_inside (length setting.table) Q.y s a st Q.rank g.lo Q.c Q.e g.hi Q.outside in
@@ -81,8 +81,8 @@ module _ {how : Pairing} {setting : Setting} {goal : Result Usage} {g : Ground} 
           outside = outside_kept (length setting.table) Q.y s s₂ a st Q.rank D.rank g.lo Q.c Q.e g.hi (omega (arith, stands_le Q.t s st.x Q.rank Q.c Q.m Q.two.left, stands_le Q.u s st.m Q.rank Q.m Q.e Q.two.right)) D.kept Q.outside;
         }
 
-    pub took : g.report.at < 2 ^ 63 → Done (act setting how st.d Q.t Q.u) (pair_ground Q) s₂ (Ok m) rep₂ → Took setting goal g n s₂ rep₂ a st rep.at m
-    took near D =
+    pub has_result : g.report.at < 2 ^ 63 → Done (act setting how st.d Q.t Q.u) (pair_ground Q) s₂ (Ok m) rep₂ → HasResult setting goal g n s₂ rep₂ a st rep.at m
+    has_result near D =
         let R = done_ok (act setting how st.d Q.t Q.u) D in
         record {
           y = Q.y;

@@ -2,27 +2,27 @@
 -- Assumes nothing.
 use Rattle.std.proofs.Common.{◌≡◌, ℕ, ◌≤◌, List, sym, ap, ◌∙◌, arith}
 use Rattle.definitions.specs.Usage.{Entries, none, count}
-use Rattle.links.specs.Rows.{chain}
-use Rattle.links.proofs.Stands.{row_le}
-use Rattle.links.proofs.Chains.{chain_zero, chain_many, down_chain}
-use Rattle.links.proofs.Entries.{few_entries, count_onto}
-use Rattle.place_states.specs.Beyond.{Beyond, entries, element, joins, outer}
+use Rattle.record_links.specs.Rows.{chain}
+use Rattle.record_links.proofs.Stands.{row_le}
+use Rattle.record_links.proofs.Chains.{chain_zero, chain_many, down_chain}
+use Rattle.record_links.proofs.Entries.{few_entries, count_onto}
+use Rattle.place_states.specs.Continuation.{Continuation, entries, element, joins, outer}
 use Rattle.place_states.specs.States.{Outside}
 use Rattle.place_states.specs.declared.State.{State}
 
-pub outside_inside : (k : ℕ) (y : Beyond) (s : List ℕ) (a : ℕ) (st : State) (r : ℕ → ℕ) (lo c e hi : ℕ) → Outside k y s a st r lo c e hi → (lo ≤ c) × (e ≤ hi)
+pub outside_inside : (k : ℕ) (y : Continuation) (s : List ℕ) (a : ℕ) (st : State) (r : ℕ → ℕ) (lo c e hi : ℕ) → Outside k y s a st r lo c e hi → (lo ≤ c) × (e ≤ hi)
 unfolding Outside
 outside_inside k (entries es) s a st r lo c e hi h = (h.low, row_le es s st.rest 0 r e hi h.held)
 outside_inside k (element z n) s a st r lo c e hi h = (omega (arith, h.root.low, h.root.high), h.high)
 outside_inside k (joins z low mid high d) s a st r lo c e hi h = (omega (arith, h.root.low, h.root.high), row_le high s st.q 0 r e hi h.high_held)
 
 -- the entries that come after
-abbrev waiting : Beyond → Entries
+abbrev waiting : Continuation → Entries
 waiting (entries es) = es
 waiting (element z n) = none
 waiting (joins z low mid high d) = mid
 
-pub outside_chain : (k : ℕ) (y : Beyond) (s : List ℕ) (a : ℕ) (st : State) (r : ℕ → ℕ) (lo c e hi : ℕ) → outer y ≤ 65536 → Outside k y s a st r lo c e hi → chain 65536 s st.rest ≡ count (waiting y)
+pub outside_chain : (k : ℕ) (y : Continuation) (s : List ℕ) (a : ℕ) (st : State) (r : ℕ → ℕ) (lo c e hi : ℕ) → outer y ≤ 65536 → Outside k y s a st r lo c e hi → chain 65536 s st.rest ≡ count (waiting y)
 unfolding Outside
 outside_chain k (entries es) s a st r lo c e hi few h = chain_many 65536 es s st.rest r e hi (omega (arith, few_entries es)) h.held
 outside_chain k (element z n) s a st r lo c e hi few h = ap (chain 65536 s) h.rest ∙ chain_zero 65536 s

@@ -2,21 +2,21 @@
 #![tactic(auto)]
 
 ghost use Rattle.std.specs.Prelude.{◌≡◌, ◌+◌, ◌*◌, ◌≤◌, length};
-ghost use Rattle.links.specs.Rows.{nodes_at};
-ghost use Rattle.place_states.specs.Calls.{Ready, Near, placing, merging, Placed};
-ghost use Rattle.analyze.specs.Tops.{Top};
+ghost use Rattle.record_links.specs.Rows.{nodes_at};
+ghost use Rattle.place_states.specs.Calls.{Ready, NoWrap, placing, merging, Placed};
+ghost use Rattle.analyze.specs.Roots.{RootNode};
 
 use layout::Table;
-use place_rules::{begin, settle, step};
+use place_rules::{begin, step, take_result};
 use place_states::{Merged, Pairing, SizeRefusal, Todo};
 use qptr::{Node, first_receives};
 use records::{kind, max_size};
 use report::Report;
 
 // The root at record q, without its argument.
-fn top(s: &[u8], q: usize) -> Node
+fn root(s: &[u8], q: usize) -> Node
     requires { q * 32 + 32 ≤ length s.now }
-    ensures { Top s.now q result }
+    ensures { RootNode s.now q result }
 {
     Node::new(kind(s, q), max_size(s, q), 0)
 }
@@ -32,7 +32,7 @@ pub fn merge_mem_at(
     report: &mut Report<'_>,
 ) -> Result<Merged, SizeRefusal>
     requires ready { Ready table.now s.old a b }
-    requires near { Near report.old.at (nodes_at s.old a + nodes_at s.old b) }
+    requires near { NoWrap report.old.at (nodes_at s.old a + nodes_at s.old b) }
     ensures { Placed (placing d) table.now s.old a b s.new result report.old report.new }
 {
     let mut st = begin(table, s, a, d, b, report)?;
@@ -51,7 +51,7 @@ pub fn merge_mem_at(
                     Pairing::Place => merge_mem_at(table, s, st.x, st.d, st.m, report)?,
                     Pairing::Merge => merge_mem(table, s, st.x, st.m, report)?,
                 };
-                st = settle(st, here, r, report);
+                st = take_result(st, here, r, report);
             }
         }
     }
@@ -67,10 +67,10 @@ pub fn merge_mem(
     report: &mut Report<'_>,
 ) -> Result<Merged, SizeRefusal>
     requires ready { Ready table.now s.old a b }
-    requires near { Near report.old.at (nodes_at s.old a + nodes_at s.old b) }
+    requires near { NoWrap report.old.at (nodes_at s.old a + nodes_at s.old b) }
     ensures { Placed merging table.now s.old a b s.new result report.old report.new }
 {
-    if first_receives(top(s, a), top(s, b)) {
+    if first_receives(root(s, a), root(s, b)) {
         return merge_mem_at(table, s, a, 0, b, report);
     }
     merge_mem_at(table, s, b, 0, a, report)

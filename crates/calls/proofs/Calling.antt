@@ -12,13 +12,13 @@ use Rattle.definitions.specs.Table.{Table, Setting}
 use Rattle.definitions.specs.Place.{Result, refused}
 use Rattle.definitions.specs.Calls.{Written as Left, with_table, written}
 use Rattle.stream.specs.Found.{told}
-use Rattle.answers.specs.Answers.{number_of}
-use Rattle.answers.specs.Writing.{Gives}
-use Rattle.answers.specs.declared.Refusal.{Refusal}
-use Rattle.answers.specs.declared.Written.{Written}
-use Rattle.answers.proofs.Giving.{gives_kept}
-use Rattle.inputs.specs.Inputs.{Met}
-use Rattle.inputs.proofs.Accepting.{body, refused_by, Going}
+use Rattle.call_answers.specs.Answers.{number_of}
+use Rattle.call_answers.specs.Writing.{Gives}
+use Rattle.call_answers.specs.declared.Refusal.{Refusal}
+use Rattle.call_answers.specs.declared.Written.{Written}
+use Rattle.call_answers.proofs.Giving.{gives_kept}
+use Rattle.call_inputs.specs.Inputs.{Met}
+use Rattle.call_inputs.proofs.Accepting.{body, refused_by, Going}
 
 module _ {A B C D : Type 0} (n k : A → ℕ) (m l : B → ℕ) (next : Setting → A → B → Result C) (table : List ℕ) (work : ℕ) (x : Maybe A) (y : Maybe B) (back : Result C → D) where
   -- the call gives back what comes of the table and the two streams
@@ -27,7 +27,7 @@ module _ {A B C D : Type 0} (n k : A → ℕ) (m l : B → ℕ) (next : Setting 
 
 module _ {A B C D : Type 0} {n k : A → ℕ} {m l : B → ℕ} {next : Setting → A → B → Result C} {table : List ℕ} {work : ℕ} {x : Maybe A} {y : Maybe B} {back : Result C → D}
     {answer : D} (call : Call n k m l next table work x y back answer) where
-  pub call_refused : {places : List ℕ} {e : Refusal} → Met table work (told n k x) (told m l y) places (Err e) → answer ≡ back (refused (number_of e))
+  pub call_refused : {starts : List ℕ} {e : Refusal} → Met table work (told n k x) (told m l y) starts (Err e) → answer ≡ back (refused (number_of e))
   call_refused met = call.is ∙ ap back (refused_by n k m l next table work x y met)
 
   pub call_goes : {t : Table} {p q : ℕ} (going : Going n k m l next table work x y t p q) → answer ≡ back (next (record { table = t }) going.first going.second)
@@ -36,6 +36,6 @@ module _ {A B C D : Type 0} {n k : A → ℕ} {m l : B → ℕ} {next : Setting 
 -- a call that writes keeps its output, and leaves a report of zeros, where it is refused
 pub call_cleared : {A B : Type 0} {n k : A → ℕ} {m l : B → ℕ} {next : Setting → A → B → Result (List ℕ)} {table : List ℕ} {work : ℕ} {x : Maybe A} {y : Maybe B}
     {output : List ℕ} (size : ℕ) {answer : Left} → Call n k m l next table work x y (written output size) answer
-    → {places : List ℕ} {e : Refusal} → Met table work (told n k x) (told m l y) places (Err e)
+    → {starts : List ℕ} {e : Refusal} → Met table work (told n k x) (told m l y) starts (Err e)
     → {r : Returned Written Refusal} {report : List ℕ} → r ≡ Err e → report ≡ replicate size 0 → Gives answer r output report
 call_cleared {output} size call met failed zeroed = rw (call_refused call met) (gives_kept output size failed zeroed)

@@ -18,19 +18,19 @@ use Rattle.definitions.proofs.Written.{Bytes}
 use Rattle.definitions.proofs.ReadsBack.{list_storable}
 use Rattle.stream.specs.Found.{all_bound, told}
 use Rattle.stream.specs.declared.Found.{Found}
-use Rattle.layout.specs.Places.{Holds}
+use Rattle.layout.specs.Located.{Holds}
 use Rattle.layout.specs.declared.table.Table.{Table}
 use Rattle.layout.proofs.Uses.{known as known_table}
-use Rattle.inputs.specs.Inputs.{Good}
-use Rattle.answers.specs.Writing.{Gives}
-use Rattle.folding.specs.Folding.{Foldable, FoldReady}
-use Rattle.answers.specs.declared.Refusal.{Refusal}
-use Rattle.answers.specs.declared.Written.{Written}
-use Rattle.inputs.specs.declared.Nodes.{Nodes}
+use Rattle.call_inputs.specs.Inputs.{Good}
+use Rattle.call_answers.specs.Writing.{Gives}
+use Rattle.call_fold.specs.Folding.{Foldable, FoldReady}
+use Rattle.call_answers.specs.declared.Refusal.{Refusal}
+use Rattle.call_answers.specs.declared.Written.{Written}
+use Rattle.call_inputs.specs.declared.Nodes.{Nodes}
 use Rattle.calls.specs.Loaded.{ListGiven}
 use Rattle.calls.proofs.Lent.{area_lent}
-use Rattle.inputs.proofs.Types.{all_types_in_lem}
-use Rattle.inputs.proofs.Accepting.{none_told, nothing_more, alone, as_two, Going, goes_on}
+use Rattle.call_inputs.proofs.Types.{all_types_in_lem}
+use Rattle.call_inputs.proofs.Accepting.{none_told, nothing_more, alone, as_two, Going, goes_on}
 use Rattle.calls.proofs.Calling.{Call, call_goes}
 
 -- what is told of a list
@@ -46,8 +46,8 @@ module _ (table : List ℕ) (work : ℕ) (list : List ℕ) where
   unfolding fold_call
   fold_is output n = record { is = ap (written output n) (as_two all_nodes all_bound folded (λ t ns. all_types_in t (ns.first ∷ ns.others)) (λ t ns. all_types_in_lem t (ns.first ∷ ns.others)) table work (list_of list)) }
 
-  module _ {places : List ℕ} where
-    module _ {n : Nodes} (good : Good table work (told_list list) none_told places n) (bytes : Bytes list) {lent : Table} (holds : Holds lent table places good.types) where
+  module _ {starts : List ℕ} where
+    module _ {n : Nodes} (good : Good table work (told_list list) none_told starts n) (bytes : Bytes list) {lent : Table} (holds : Holds lent table starts good.types) where
       abbrev setting : Setting
       setting = record { table = good.begun.records.layouts }
 

@@ -10,9 +10,9 @@ use lib.Seq.{length-take-le}
 use Rattle.definitions.specs.Limits.{work_limit}
 use Rattle.std.specs.Prelude.{Option, Result as Returned}
 use Rattle.stream.specs.declared.Found.{Found}
-use Rattle.answers.specs.declared.Refusal.{Refusal}
-use Rattle.inputs.specs.Inputs.{Met}
-use Rattle.inputs.specs.declared.Nodes.{Nodes}
+use Rattle.call_answers.specs.declared.Refusal.{Refusal}
+use Rattle.call_inputs.specs.Inputs.{Met}
+use Rattle.call_inputs.specs.declared.Nodes.{Nodes}
 
 -- there are as many bytes as are asked for, and so many are lent on
 module _ {k : ℕ} (asked : k ≡ work_limit) (work : List ℕ) {n : ℕ} (same : length work ≡ n) (enough : work_limit ≤ n) where
@@ -23,5 +23,5 @@ module _ {k : ℕ} (asked : k ≡ work_limit) (work : List ℕ) {n : ℕ} (same 
   area_lent = length-take-le k work area_within ∙ asked
 
 -- what acceptance tells, in the words of the streams and of the area as it was lent
-pub met_lent : {table places : List ℕ} {w work : ℕ} {x y a b : Option Found} {r : Returned Nodes Refusal} → x ≡ a → y ≡ b → w ≡ work → Met table w x y places r → Met table work a b places r
+pub met_lent : {table starts : List ℕ} {w work : ℕ} {x y a b : Option Found} {r : Returned Nodes Refusal} → x ≡ a → y ≡ b → w ≡ work → Met table w x y starts r → Met table work a b starts r
 met_lent e f g met = rw (e, f, g) at met

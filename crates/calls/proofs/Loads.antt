@@ -6,7 +6,7 @@ use native.Mathlib.Omega.{arith}
 use lib.ListN.{length}
 use Rattle.definitions.specs.Limits.{node_limit, work_limit}
 use Rattle.records.specs.Usages.{At}
-use Rattle.transfer_in.specs.Loading.{Loadable, Loaded}
+use Rattle.stream_load.specs.Loading.{Loadable, Loaded}
 use Rattle.calls.proofs.Memories.{Memory}
 
 module _ {s : List ℕ} {n b : ℕ} (m : Memory s n b) {work : List ℕ} where

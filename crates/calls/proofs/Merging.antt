@@ -19,21 +19,21 @@ use Rattle.place_states.specs.Calls.{merging}
 use Rattle.stream.specs.Found.{top_bound, told}
 use Rattle.stream.specs.declared.Found.{Found}
 use Rattle.std.specs.Prelude.{Option, Result as Returned}
-use Rattle.layout.specs.Places.{Holds}
+use Rattle.layout.specs.Located.{Holds}
 use Rattle.layout.specs.declared.table.Table.{Table}
 use Rattle.layout.proofs.Uses.{known as known_table}
-use Rattle.inputs.specs.Inputs.{Good}
-use Rattle.inputs.specs.Tops.{OpaqueFirst, Conflicts}
-use Rattle.answers.specs.Writing.{Gives, unlike_report}
-use Rattle.answers.specs.declared.Refusal.{Refusal}
-use Rattle.answers.specs.declared.Written.{Written}
-use Rattle.inputs.specs.declared.Nodes.{Nodes}
-use Rattle.inputs.proofs.Types.{top_types_in_lem}
-use Rattle.inputs.proofs.Accepting.{Going, goes_on}
+use Rattle.call_inputs.specs.Inputs.{Good}
+use Rattle.call_inputs.specs.Tops.{OpaqueFirst, Conflicts}
+use Rattle.call_answers.specs.Writing.{Gives, unlike_report}
+use Rattle.call_answers.specs.declared.Refusal.{Refusal}
+use Rattle.call_answers.specs.declared.Written.{Written}
+use Rattle.call_inputs.specs.declared.Nodes.{Nodes}
+use Rattle.call_inputs.proofs.Types.{top_types_in_lem}
+use Rattle.call_inputs.proofs.Accepting.{Going, goes_on}
 use Rattle.calls.specs.Loaded.{Pair, PairGiven}
 use Rattle.calls.proofs.Pairs.{pair_of}
 use Rattle.calls.proofs.Calling.{Call, call_goes}
-use Rattle.inputs.proofs.FirstBytes.{first_byte_of, some_bytes, first_byte, opaque_by}
+use Rattle.call_inputs.proofs.FirstBytes.{first_byte_of, some_bytes, first_byte, opaque_by}
 
 -- what is told of a stream
 abbrev pub told_top : List ℕ → Option Found
@@ -78,7 +78,7 @@ module _ (table : List ℕ) (work : ℕ) (first second : List ℕ) where
   unfolding merge_call
   merge_is output n = record { is = simp top_types_in_lem }
 
-  module _ {places : List ℕ} {n : Nodes} (good : Good table work (told_top first) (told_top second) places n) (bytes : Bytes first) (bytes' : Bytes second) where
+  module _ {starts : List ℕ} {n : Nodes} (good : Good table work (told_top first) (told_top second) starts n) (bytes : Bytes first) (bytes' : Bytes second) where
     abbrev layouts : Layouts
     layouts = good.begun.records.layouts
 
@@ -151,7 +151,7 @@ module _ (table : List ℕ) (work : ℕ) (first second : List ℕ) where
           is = rw (first_byte first bytes e) (under_both memory write_top (merge_mem setting a b));
         }
 
-    pub merge_gives : {top : ℕ} (k : ReadMerged top) {lent : Table} → Holds lent table places good.types → (output rep : List ℕ)
+    pub merge_gives : {top : ℕ} (k : ReadMerged top) {lent : Table} → Holds lent table starts good.types → (output rep : List ℕ)
         → {r : Returned Written Refusal} {output' rep' : List ℕ} → PairGiven top merging lent first second n output rep r output' rep'
         → Gives (merge_call table work first second output (length rep)) r output' rep'
     unfolding merging

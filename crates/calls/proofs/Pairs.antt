@@ -16,29 +16,29 @@ use Rattle.definitions.proofs.FewPairings.{place_few, merge_mem_few}
 use Rattle.definitions.proofs.Writable.{Writable}
 use Rattle.definitions.proofs.Storable.{known_storable}
 use Rattle.definitions.proofs.Rounds.{write_read}
-use Rattle.links.specs.Rows.{nodes_at}
-use Rattle.layout.specs.Places.{Known}
+use Rattle.record_links.specs.Rows.{nodes_at}
+use Rattle.layout.specs.Located.{Known}
 use Rattle.stream.specs.Found.{type_bound}
 use Rattle.stream.specs.declared.Found.{Found}
 use Rattle.std.specs.Prelude.{Option, Result as Returned}
-use Rattle.layout.specs.Places.{Holds}
+use Rattle.layout.specs.Located.{Holds}
 use Rattle.layout.specs.declared.table.Table.{Table}
 use Rattle.layout.proofs.Uses.{known as known_table}
 use Rattle.report.specs.Emitted.{SameBuffer}
 use Rattle.report.specs.declared.Report.{Report}
-use Rattle.inputs.specs.declared.Nodes.{Nodes}
-use Rattle.transfer_in.specs.Loading.{itself}
-use Rattle.place_states.specs.Calls.{Two, Ready, Near, Placed, ground, placing, merging}
+use Rattle.call_inputs.specs.declared.Nodes.{Nodes}
+use Rattle.stream_load.specs.Loading.{by_number}
+use Rattle.place_states.specs.Calls.{Two, Ready, NoWrap, Placed, ground, placing, merging}
 use Rattle.place_states.specs.declared.SizeRefusal.{SizeRefusal}
 use Rattle.place_states.specs.declared.Merged.{Merged}
-use Rattle.inputs.specs.Inputs.{Good, Both, BothLoaded}
-use Rattle.answers.specs.Writing.{Gives, Reached, Reachable, Finished}
-use Rattle.answers.specs.declared.Refusal.{Refusal}
-use Rattle.answers.specs.declared.Written.{Written}
-use Rattle.inputs.proofs.Types.{types_in_lem}
-use Rattle.inputs.proofs.Lending.{ready_two, near_two}
+use Rattle.call_inputs.specs.Inputs.{Good, Both, BothLoaded}
+use Rattle.call_answers.specs.Writing.{Gives, Reached, Reachable, Finished}
+use Rattle.call_answers.specs.declared.Refusal.{Refusal}
+use Rattle.call_answers.specs.declared.Written.{Written}
+use Rattle.call_inputs.proofs.Types.{types_in_lem}
+use Rattle.call_inputs.proofs.Lending.{ready_two, near_two}
 use Rattle.place_states.proofs.Answering.{done_kept}
-use Rattle.answers.proofs.Reaching.{FewIn, reached}
+use Rattle.call_answers.proofs.Reaching.{FewIn, reached}
 use Rattle.calls.specs.Loaded.{Usable, Pair, PairReady, PairGiven}
 use Rattle.calls.proofs.Lent.{area_lent}
 
@@ -60,7 +60,7 @@ pair_of t c a b w v known known' counted counted' = record {
   right_nodes = counted';
 }
 
-pub pair_ready : {table places : List ℕ} {size : ℕ} {x y : Option Found} {n : Nodes} (good : Good table size x y places n) {lent : Table} → Holds lent table places good.types
+pub pair_ready : {table starts : List ℕ} {size : ℕ} {x y : Option Found} {n : Nodes} (good : Good table size x y starts n) {lent : Table} → Holds lent table starts good.types
     → {first second : List ℕ} → Pair good.begun.records.layouts first second n
     → {k : ℕ} → k ≡ work_limit → (work : List ℕ) → length work ≡ size → PairReady lent first second n (take k work)
 pair_ready good holds pair asked work same = record {
@@ -98,7 +98,7 @@ module _ {table : Table} {first second : List ℕ} {n : Nodes} {work : List ℕ}
 
   module _ {work₁ : List ℕ} (same : length work₁ ≡ length work) (loaded : BothLoaded first second n work work₁) where
     two : (st : Setting) (pair : Pair st.table first second n)
-        → Two (length st.table) work₁ 1 (1 + n.first) itself 1 (1 + n.first) (1 + n.first + n.second) pair.a pair.b
+        → Two (length st.table) work₁ 1 (1 + n.first) by_number 1 (1 + n.first) (1 + n.first + n.second) pair.a pair.b
     two st pair = record {
       left = loaded.left pair.a pair.left.reads (sym pair.left_nodes);
       right = loaded.right pair.b pair.right.reads (sym pair.right_nodes);
@@ -110,7 +110,7 @@ module _ {table : Table} {first second : List ℕ} {n : Nodes} {work : List ℕ}
     pub merges : Ready table work₁ 1 (1 + n.first)
     merges = ready_two ready.setting (two ready.setting ready.pair) ready.known (omega (arith, ready.area))
 
-    pub near : Near 0 (nodes_at work₁ 1 + nodes_at work₁ (1 + n.first))
+    pub near : NoWrap 0 (nodes_at work₁ 1 + nodes_at work₁ (1 + n.first))
     near = near_two (two ready.setting ready.pair) 0 (omega arith)
 
     module _ (z : Setting → Usage → Usage → Result Usage) (small : (st : Setting) (a b : Usage) (m : ℕ) → nodes a + nodes b ≤ m → FewIn m (z st a b)) {work₂ : List ℕ} {rep rep₂ : Report}
@@ -118,15 +118,15 @@ module _ {table : Table} {first second : List ℕ} {n : Nodes} {work : List ℕ}
       reaches : {r : Returned Merged SizeRefusal} → Placed z table work₁ 1 (1 + n.first) work₂ r rep rep₂
           → (st : Setting) → Known table st → (pair : Pair st.table first second n) → Reached (z st pair.a pair.b) work₂ r rep₂
       reaches {r} placed st known pair =
-          reached node_limit (omega arith) (ground work₁ itself 1 (1 + n.first + n.second) rep) start work₂ rep₂ r (z st pair.a pair.b)
+          reached node_limit (omega arith) (ground work₁ by_number 1 (1 + n.first + n.second) rep) start work₂ rep₂ r (z st pair.a pair.b)
           (small st pair.a pair.b node_limit (omega (arith, ready.few, pair.left_nodes, pair.right_nodes)))
-          (placed.done st known pair.a pair.b itself 1 (1 + n.first) (1 + n.first + n.second) (two st pair))
+          (placed.done st known pair.a pair.b by_number 1 (1 + n.first) (1 + n.first + n.second) (two st pair))
 
       -- what was reported is in the buffer that was lent
       pub same_buffer : {r : Returned Merged SizeRefusal} → Placed z table work₁ 1 (1 + n.first) work₂ r rep rep₂ → SameBuffer rep rep₂
       same_buffer {r} placed =
-          done_kept (z ready.setting ready.pair.a ready.pair.b) (ground work₁ itself 1 (1 + n.first + n.second) rep) work₂ r rep₂
-          (placed.done ready.setting ready.known ready.pair.a ready.pair.b itself 1 (1 + n.first) (1 + n.first + n.second) (two ready.setting ready.pair))
+          done_kept (z ready.setting ready.pair.a ready.pair.b) (ground work₁ by_number 1 (1 + n.first + n.second) rep) work₂ r rep₂
+          (placed.done ready.setting ready.known ready.pair.a ready.pair.b by_number 1 (1 + n.first) (1 + n.first + n.second) (two ready.setting ready.pair))
 
       pub reachable : {r : Returned Merged SizeRefusal} → Placed z table work₁ 1 (1 + n.first) work₂ r rep rep₂ → Reachable work₂ r rep₂
       reachable placed = record { result = z ready.setting ready.pair.a ready.pair.b; reached = reaches placed ready.setting ready.known ready.pair }

@@ -13,15 +13,15 @@ use Rattle.definitions.proofs.Written.{Bytes}
 use Rattle.definitions.proofs.Rounds.{memory_written}
 use Rattle.place_states.specs.Calls.{placing}
 use Rattle.stream.specs.Found.{type_bound}
-use Rattle.inputs.specs.Inputs.{Good}
-use Rattle.answers.specs.Writing.{Gives}
-use Rattle.answers.specs.declared.Refusal.{Refusal}
-use Rattle.answers.specs.declared.Written.{Written}
-use Rattle.inputs.specs.declared.Nodes.{Nodes}
-use Rattle.inputs.proofs.Types.{types_in_lem}
-use Rattle.inputs.proofs.Accepting.{Going, goes_on}
+use Rattle.call_inputs.specs.Inputs.{Good}
+use Rattle.call_answers.specs.Writing.{Gives}
+use Rattle.call_answers.specs.declared.Refusal.{Refusal}
+use Rattle.call_answers.specs.declared.Written.{Written}
+use Rattle.call_inputs.specs.declared.Nodes.{Nodes}
+use Rattle.call_inputs.proofs.Types.{types_in_lem}
+use Rattle.call_inputs.proofs.Accepting.{Going, goes_on}
 use Rattle.calls.specs.Loaded.{Pair, PairGiven}
-use Rattle.layout.specs.Places.{Holds}
+use Rattle.layout.specs.Located.{Holds}
 use Rattle.layout.specs.declared.table.Table.{Table}
 use Rattle.layout.proofs.Uses.{known as known_table}
 use Rattle.calls.proofs.Memories.{told_memory}
@@ -37,7 +37,7 @@ module _ (table : List ℕ) (work : ℕ) (first : List ℕ) (offset : ℕ) (seco
   unfolding place_call
   place_is output n = record { is = simp types_in_lem }
 
-  module _ {places : List ℕ} {n : Nodes} (good : Good table work (told_memory first) (told_memory second) places n) (bytes : Bytes first) (bytes' : Bytes second) where
+  module _ {starts : List ℕ} {n : Nodes} (good : Good table work (told_memory first) (told_memory second) starts n) (bytes : Bytes first) (bytes' : Bytes second) where
     pub goes : Going nodes type_bound nodes type_bound next table work (memory_of first) (memory_of second) good.begun.records.layouts n.first n.second
     goes = goes_on nodes type_bound nodes type_bound next table work (memory_of first) (memory_of second) good
 
@@ -46,7 +46,7 @@ module _ (table : List ℕ) (work : ℕ) (first : List ℕ) (offset : ℕ) (seco
         pair_of good.begun.records.layouts 0x0A goes.first goes.second (memory_written first goes.first bytes goes.first_is) (memory_written second goes.second bytes' goes.second_is)
         goes.first_known goes.second_known goes.first_nodes goes.second_nodes
 
-    pub place_gives : {lent : Table} → Holds lent table places good.types → (output rep : List ℕ) {r : Returned Written Refusal} {output' rep' : List ℕ}
+    pub place_gives : {lent : Table} → Holds lent table starts good.types → (output rep : List ℕ) {r : Returned Written Refusal} {output' rep' : List ℕ}
         → PairGiven 0x0A (placing offset) lent first second n output rep r output' rep'
         → Gives (place_call table work first offset second output (length rep)) r output' rep'
     unfolding placing

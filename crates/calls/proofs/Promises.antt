@@ -21,12 +21,12 @@ use Rattle.definitions.proofs.Choice.{either}
 use Rattle.definitions.proofs.Written.{Bytes}
 use Rattle.definitions.proofs.ReadsBack.{list_storable}
 use Rattle.definitions.proofs.Demand.{demand}
-use Rattle.answers.specs.Writing.{Gives}
+use Rattle.call_answers.specs.Writing.{Gives}
 use Rattle.calls.specs.Promised.{SoundlyFolded, Promised}
 use Rattle.std.specs.Prelude.{Result as Returned}
-use Rattle.answers.specs.declared.Refusal.{Refusal}
-use Rattle.answers.specs.declared.Written.{Written as Counted}
-use Rattle.answers.specs.Answers.{told_of}
+use Rattle.call_answers.specs.declared.Refusal.{Refusal}
+use Rattle.call_answers.specs.declared.Written.{Written as Counted}
+use Rattle.call_answers.specs.Answers.{told_of}
 
 module _ (t : Table) (ns : Nodes) (output : List ℕ) (n : ℕ) where
   abbrev Kept : Written → Type 0

@@ -17,8 +17,8 @@ use Rattle.definitions.specs.Place.{Result, refused, done}
 use Rattle.definitions.specs.Calls.{receiver_of, part_of, receiver_call}
 use Rattle.qptr.specs.Values.{Receives}
 use Rattle.qptr.specs.declared.Node.{Node}
-use Rattle.answers.specs.declared.Refusal.{Refusal}
-use Rattle.inputs.specs.Inputs.{FewNodes}
+use Rattle.call_answers.specs.declared.Refusal.{Refusal}
+use Rattle.call_inputs.specs.Inputs.{FewNodes}
 use Rattle.calls.specs.Received.{answered}
 use Rattle.calls.specs.Roots.{RootOf}
 

@@ -16,9 +16,9 @@ use Rattle.definitions.specs.Table.{Setting, concrete, scalar, table_of}
 use Rattle.definitions.specs.Support.{supports, supports_in}
 use Rattle.definitions.specs.Place.{done, place, place_in, merge_mem, fold}
 use Rattle.definitions.specs.Calls.{fold_call}
-use Rattle.layout.specs.Places.{Placed}
+use Rattle.layout.specs.Located.{Located}
 use Rattle.layout.specs.declared.table.Table.{Table as Lent}
-use Rattle.folding.specs.Folding.{FoldReady}
+use Rattle.call_fold.specs.Folding.{FoldReady}
 
 -- types 0 and 1 are scalars of 4 bytes
 table : List ℕ
@@ -63,9 +63,9 @@ answer = refl
 
 -- the table, with the places of its records
 lent : Lent
-lent = record { bytes = record { ref_ptr = (0, 0); now = table }; places = record { ref_ptr = (0, 0); now = 2 ∷ 11 ∷ [] } }
+lent = record { bytes = record { ref_ptr = (0, 0); now = table }; starts = record { ref_ptr = (0, 0); now = 2 ∷ 11 ∷ [] } }
 
-placed : (ty : ℕ) → ty < 2 → Placed lent setting.table ty
+placed : (ty : ℕ) → ty < 2 → Located lent setting.table ty
 unfolding lent table setting when◌then◌else◌
 placed zero l = record { kept = omega arith; rest = bytes 1 0x20 ++ bytes 4 4 ++ bytes 4 0; stands = refl; admits = refl }
 placed (suc zero) l = record { kept = omega arith; rest = []; stands = refl; admits = refl }

@@ -15,14 +15,14 @@ use Rattle.definitions.specs.Place.{Result, done}
 use Rattle.definitions.specs.Sound.{sound}
 use Rattle.definitions.specs.Calls.{types_in, said, sound_call}
 use Rattle.stream.specs.Found.{type_bound}
-use Rattle.transfer_in.specs.Loading.{Loadable, Loaded}
-use Rattle.soundness.specs.Standing.{Standing, Tested}
-use Rattle.answers.specs.Answers.{said_of}
-use Rattle.answers.specs.declared.Refusal.{Refusal}
-use Rattle.inputs.specs.Inputs.{Good, Met}
-use Rattle.inputs.specs.declared.Nodes.{Nodes}
-use Rattle.inputs.proofs.Types.{types_in_lem}
-use Rattle.inputs.proofs.Accepting.{none_told, nothing_more, alone, as_two, Going, goes_on}
+use Rattle.stream_load.specs.Loading.{Loadable, Loaded}
+use Rattle.soundness.specs.Preorder.{UsageFrom, Tested}
+use Rattle.call_answers.specs.Answers.{said_of}
+use Rattle.call_answers.specs.declared.Refusal.{Refusal}
+use Rattle.call_inputs.specs.Inputs.{Good, Met}
+use Rattle.call_inputs.specs.declared.Nodes.{Nodes}
+use Rattle.call_inputs.proofs.Types.{types_in_lem}
+use Rattle.call_inputs.proofs.Accepting.{none_told, nothing_more, alone, as_two, Going, goes_on}
 use Rattle.calls.proofs.Calling.{Call, call_refused, call_goes}
 use Rattle.calls.proofs.Memories.{Memory, told_memory, read_as}
 use Rattle.calls.proofs.Loads.{loadable, usage_at}
@@ -35,11 +35,11 @@ module _ (table : List ℕ) (work : ℕ) (s : List ℕ) where
   unfolding sound_call
   sound_is = record { is = ap said (as_two nodes type_bound tested_as types_in types_in_lem table work (memory_of s)) }
 
-  module _ {places : List ℕ} where
-    pub sound_refused : {e : Refusal} → Met table work (told_memory s) none_told places (Err e) → said_of (Err e) ≡ sound_call table work s
+  module _ {starts : List ℕ} where
+    pub sound_refused : {e : Refusal} → Met table work (told_memory s) none_told starts (Err e) → said_of (Err e) ≡ sound_call table work s
     sound_refused met = sym (call_refused sound_is met)
 
-    module _ {n : Nodes} (good : Good table work (told_memory s) none_told places n) where
+    module _ {n : Nodes} (good : Good table work (told_memory s) none_told starts n) where
       pub going : Going nodes type_bound nothing_more nothing_more (alone tested_as) table work (memory_of s) (some tt) good.begun.records.layouts n.first n.second
       going = goes_on nodes type_bound nothing_more nothing_more (alone tested_as) table work (memory_of s) (some tt) good
 
@@ -52,7 +52,7 @@ module _ (table : List ℕ) (work : ℕ) (s : List ℕ) where
       sound_loadable long = loadable memory (omega (arith, good.few)) (omega (arith, good.begun.enough, long))
 
       module _ {area area' : List ℕ} {end : ℕ} (loaded : Loaded s 1 area 1 area' end) where
-        pub sound_standing : length area' ≡ work → Standing area' 1
+        pub sound_standing : length area' ≡ work → UsageFrom area' 1
         sound_standing long =
             let m = memory in
             record {

@@ -19,27 +19,27 @@ use Rattle.definitions.specs.Table.{Setting, layout_of, is_concrete}
 use Rattle.definitions.specs.Place.{done}
 use Rattle.definitions.specs.Support.{supports}
 use Rattle.definitions.specs.Calls.{refuse_if, refusal, said, supports_call}
-use Rattle.layout.specs.Places.{Holds, Says}
+use Rattle.layout.specs.Located.{Holds, Says}
 use Rattle.layout.specs.declared.table.Table.{Table}
 use Rattle.layout.proofs.Uses.{known}
-use Rattle.transfer_in.specs.Loading.{Loaded, itself}
-use Rattle.support.specs.Known.{Askable}
-use Rattle.support.specs.Answers.{Supports}
-use Rattle.answers.specs.Answers.{said_of}
-use Rattle.answers.specs.declared.Refusal.{Refusal}
-use Rattle.inputs.specs.Inputs.{Begun, TableMet}
-use Rattle.inputs.proofs.Types.{types_in_lem, one_within, both_within}
-use Rattle.inputs.proofs.Refusals.{table_refused, good_table}
+use Rattle.stream_load.specs.Loading.{Loaded, by_number}
+use Rattle.support.specs.Askable.{Askable}
+use Rattle.support.specs.Supported.{Supports}
+use Rattle.call_answers.specs.Answers.{said_of}
+use Rattle.call_answers.specs.declared.Refusal.{Refusal}
+use Rattle.call_inputs.specs.Inputs.{Begun, TableMet}
+use Rattle.call_inputs.proofs.Types.{types_in_lem, one_within, both_within}
+use Rattle.call_inputs.proofs.Refusals.{table_refused, good_table}
 use Rattle.calls.proofs.Memories.{Memory}
 
 -- The refusals
 
-pub supports_tableless : {table places : List ℕ} {work : ℕ} {e : Refusal} → TableMet table work places (Err e) → (ty offset : ℕ) (s : List ℕ)
+pub supports_tableless : {table starts : List ℕ} {work : ℕ} {e : Refusal} → TableMet table work starts (Err e) → (ty offset : ℕ) (s : List ℕ)
     → said_of (Err e) ≡ supports_call table work ty offset s
 unfolding supports_call
 supports_tableless met ty offset s = rw (table_refused _ met)
 
-module _ {table places : List ℕ} {work k : ℕ} (t : Begun table work places k) (ty : ℕ) where
+module _ {table starts : List ℕ} {work k : ℕ} (t : Begun table work starts k) (ty : ℕ) where
   abbrev setting : Setting
   setting = record { table = t.records.layouts }
 
@@ -60,7 +60,7 @@ module _ {table places : List ℕ} {work k : ℕ} (t : Begun table work places k
     unfolding when◌then◌else◌
     supports_unknown is same h = rw (asked, lt-leb (max (suc ty) b) k (omega arith))
 
-    module _ {needed wide : ℕ} (is : needed ≡ max b (wide + 1)) (same : wide ≡ ty) (within : needed ≤ k) {lent : Table} (holds : Holds lent table places k) where
+    module _ {needed wide : ℕ} (is : needed ≡ max b (wide + 1)) (same : wide ≡ ty) (within : needed ≤ k) {lent : Table} (holds : Holds lent table starts k) where
       below : ty < k
       below = omega arith
 
@@ -91,7 +91,7 @@ module _ {table places : List ℕ} {work k : ℕ} (t : Begun table work places k
           type = record { setting = setting; known = known t.records holds; below = omega (arith, t.records.count, below) };
           usage = record {
             usage = m.usage;
-            rank = itself;
+            rank = by_number;
             lo = 1;
             hi = 1 + nodes m.usage;
             stands = loaded.stands m.usage [] m.reads;
@@ -103,4 +103,4 @@ module _ {table places : List ℕ} {work k : ℕ} (t : Begun table work places k
 
         pub memory_supported : {r : Bool} → Supports lent ty offset area' 1 r → r ≡ supports setting ty offset m.usage
         memory_supported says =
-            says.is setting (known t.records holds) (omega (arith, t.records.count, below)) m.usage itself 1 (1 + nodes m.usage) (loaded.stands m.usage [] m.reads)
+            says.is setting (known t.records holds) (omega (arith, t.records.count, below)) m.usage by_number 1 (1 + nodes m.usage) (loaded.stands m.usage [] m.reads)

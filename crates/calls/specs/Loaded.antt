@@ -8,13 +8,13 @@ use Rattle.definitions.specs.Table.{Table as Layouts, Setting}
 use Rattle.definitions.specs.Place.{Result, under, fold}
 use Rattle.definitions.specs.Sound.{Storable}
 use Rattle.definitions.specs.Calls.{written}
-use Rattle.layout.specs.Places.{Known}
+use Rattle.layout.specs.Located.{Known}
 use Rattle.layout.specs.declared.table.Table.{Table}
-use Rattle.answers.specs.Writing.{Gives}
-use Rattle.answers.specs.declared.Refusal.{Refusal}
-use Rattle.answers.specs.declared.Written.{Written}
-use Rattle.inputs.specs.declared.Nodes.{Nodes}
-use Rattle.folding.specs.Folding.{Foldable}
+use Rattle.call_answers.specs.Writing.{Gives}
+use Rattle.call_answers.specs.declared.Refusal.{Refusal}
+use Rattle.call_answers.specs.declared.Written.{Written}
+use Rattle.call_inputs.specs.declared.Nodes.{Nodes}
+use Rattle.call_fold.specs.Folding.{Foldable}
 
 -- behind its first byte, bs is u, with types of the table ls
 pub record Usable (ls : Layouts) (bs : List ℕ) (u : Usage) : Type 0 where

@@ -4,7 +4,7 @@ use Rattle.std.specs.Prelude.{ℕ, ◌≡◌, List, Option, Some, None}
 use Rattle.std.proofs.Math.Option.{none as nothing, some}
 use Rattle.definitions.specs.Usage.{Usage, nodes}
 use Rattle.definitions.specs.Stream.{memory_of}
-use Rattle.qptr.specs.Values.{Stands}
+use Rattle.qptr.specs.Values.{OwnPart}
 use Rattle.qptr.specs.declared.Node.{Node}
 use Rattle.calls.specs.declared.receiver_rule.Root.{Root}
 
@@ -13,7 +13,7 @@ pub record RootOf (bs : List ℕ) (n : ℕ) (node : Node) : Type 0 where
   pub usage : Usage
   pub is : memory_of bs ≡ some usage
   pub counted : n ≡ nodes usage
-  pub own : Stands node usage
+  pub own : OwnPart node usage
 
 abbrev pub Rooted : List ℕ → Option Root → Type 0
 Rooted bs (Some root) = RootOf bs root.nodes root.node

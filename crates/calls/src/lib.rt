@@ -4,39 +4,39 @@
 
 ghost use Rattle.std.specs.Prelude.{◌≡◌, length};
 ghost use Rattle.definitions.specs.Calls.{sound_call, supports_call, place_call, merge_call, fold_call};
-ghost use Rattle.layout.specs.Places.{Room};
-ghost use Rattle.answers.specs.Answers.{said_of, told_of};
-ghost use Rattle.answers.specs.Writing.{Gives};
+ghost use Rattle.layout.specs.Located.{Room};
+ghost use Rattle.call_answers.specs.Answers.{said_of, told_of};
+ghost use Rattle.call_answers.specs.Writing.{Gives};
 ghost use Rattle.calls.specs.Promised.{Promised};
 
-use answers::{Refusal, Written};
-use layout::{FEW, RECORDS};
+use call_answers::{Refusal, Written};
+use layout::{FEW_RECORDS, MAX_RECORDS};
 
 mod receiver_rule;
-mod with_places;
+mod with_starts;
 
 pub use receiver_rule::{Received, receiver, receiving};
 
 // What a call gives that is lent places for a table's records. Places are cleared first, so a table that says it has few records gets
 // few.
-fn lend_places<R, F: FnMut(&mut [u32]) -> R>(table: &[u8], call: &mut F) -> R
-    requires { (places : _) → Room table.now places.now → F.pre call.old places }
-    ensures { (places : _) × (places' : _) × Room table.now places.now × F.step call.old places result places' call.new }
+fn lend_starts<R, F: FnMut(&mut [u32]) -> R>(table: &[u8], call: &mut F) -> R
+    requires { (starts : _) → Room table.now starts.now → F.pre call.old starts }
+    ensures { (starts : _) × (starts' : _) × Room table.now starts.now × F.step call.old starts result starts' call.new }
 {
     if layout::has_few(table) {
-        let mut places = [0u32; FEW];
-        return call(&mut places);
+        let mut starts = [0u32; FEW_RECORDS];
+        return call(&mut starts);
     }
-    let mut places = [0u32; RECORDS];
-    call(&mut places)
+    let mut starts = [0u32; MAX_RECORDS];
+    call(&mut starts)
 }
 
 // Is the usage of a Memory stream sound? It is loaded into the work area, whose contents do not matter.
 pub fn sound(table: &[u8], work: &mut [u8], s: &[u8]) -> Result<bool, Refusal>
     ensures { said_of result ≡ sound_call table.now (length work.old) s.now }
 {
-    let mut call = |places: &mut [u32]| with_places::sound(table, work, places, s);
-    lend_places(table, &mut call)
+    let mut call = |starts: &mut [u32]| with_starts::sound(table, work, starts, s);
+    lend_starts(table, &mut call)
 }
 
 // Does a type, at an offset, support the usage of a Memory stream? It is loaded as for `sound`.
@@ -49,8 +49,8 @@ pub fn supports(
 ) -> Result<bool, Refusal>
     ensures { said_of result ≡ supports_call table.now (length work.old) ty offset s.now }
 {
-    let mut call = |places: &mut [u32]| with_places::supports(table, work, places, ty, offset, s);
-    lend_places(table, &mut call)
+    let mut call = |starts: &mut [u32]| with_starts::supports(table, work, starts, ty, offset, s);
+    lend_starts(table, &mut call)
 }
 
 // The second Memory is put into the first at an offset.
@@ -65,10 +65,10 @@ pub fn place(
 ) -> Result<Written, Refusal>
     ensures { Gives (place_call table.now (length work.old) first.now offset second.now output.old (length rep.old)) result output.new rep.new }
 {
-    let mut call = |places: &mut [u32]| with_places::place(
-        table, work, places, first, offset, second, output, rep,
+    let mut call = |starts: &mut [u32]| with_starts::place(
+        table, work, starts, first, offset, second, output, rep,
     );
-    lend_places(table, &mut call)
+    lend_starts(table, &mut call)
 }
 
 // Two Buffers or two Memories are merged; of others the first stays.
@@ -82,10 +82,10 @@ pub fn merge(
 ) -> Result<Written, Refusal>
     ensures { Gives (merge_call table.now (length work.old) first.now second.now output.old (length rep.old)) result output.new rep.new }
 {
-    let mut call = |places: &mut [u32]| with_places::merge(
-        table, work, places, first, second, output, rep,
+    let mut call = |starts: &mut [u32]| with_starts::merge(
+        table, work, starts, first, second, output, rep,
     );
-    lend_places(table, &mut call)
+    lend_starts(table, &mut call)
 }
 
 // The nodes of a list, merged one after the other.
@@ -99,6 +99,6 @@ pub fn fold(
     ensures gives { Gives (fold_call table.now (length work.old) list.now output.old (length rep.old)) result output.new rep.new }
     ensures promised { Promised table.now list.now (told_of result) output.new }
 {
-    let mut call = |places: &mut [u32]| with_places::fold(table, work, places, list, output, rep);
-    lend_places(table, &mut call)
+    let mut call = |starts: &mut [u32]| with_starts::fold(table, work, starts, list, output, rep);
+    lend_starts(table, &mut call)
 }

@@ -5,11 +5,11 @@ ghost use Rattle.definitions.specs.Calls.{receiver_of, receiver_call};
 ghost use Rattle.calls.specs.Received.{first_of, answered};
 ghost use Rattle.calls.specs.Roots.{Rooted};
 
-use inputs::few_nodes;
+use call_inputs::few_nodes;
 use qptr::{Node, first_receives};
 
 // The bytes from which on a stream is not short: a short one has few maps inside of each other, so a small window does.
-const SHORT: usize = 1024;
+const SHORT_STREAM: usize = 1024;
 
 // Which of two streams receives the other.
 #[derive(Clone, Copy, PartialEq, Eq)]
@@ -55,7 +55,7 @@ fn who_receives(first: &[u8], second: &[u8], window: &mut [u8]) -> Option<Receiv
 pub fn receiving(first: &[u8], second: &[u8]) -> Option<Received>
     ensures { first_of result ≡ answered (receiver_of first.now second.now) }
 {
-    if first.len() < SHORT && second.len() < SHORT {
+    if first.len() < SHORT_STREAM && second.len() < SHORT_STREAM {
         let mut window = [0u8; 96];
         return who_receives(first, second, &mut window);
     }

@@ -20,13 +20,13 @@ abbrev pub numbers_of : Answer → List ℕ
 numbers_of a = a.number ∷ bit a.yes ∷ a.usage ∷ a.report ∷ a.pairings ∷ []
 
 -- what place, merge and fold leave: the numbers, and both buffers
-pub record Leaves (w : Written) (answer output report : List ℕ) : Type 0 where
+pub record ReturnsNumbers (w : Written) (answer output report : List ℕ) : Type 0 where
   pub numbers : answer ≡ numbers_of w.answer
   pub usage : output ≡ w.output
   pub reported : report ≡ w.report
 
 -- the numbers are those of an answer that keeps what is promised of folding sound nodes
-pub record LeavesPromised (table list answer output : List ℕ) : Type 0 where
+pub record ReturnsPromised (table list answer output : List ℕ) : Type 0 where
   pub told : Answer
   pub numbers : answer ≡ numbers_of told
   pub promised : Promised table list told output

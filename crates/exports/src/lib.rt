@@ -1,13 +1,13 @@
-// The calls for C and Rust, with their answers as five numbers, the array that C lends. `exports_c` gives them to C under the same names.
+// The calls for C and Rust, with their answers as five numbers, the array that C lends. A slice is passed as a pointer and a length.
 #![tactic(auto)]
 
 ghost use Rattle.std.specs.Prelude.{◌≡◌, length};
 ghost use Rattle.definitions.specs.Calls.{receiver_of, sound_call, supports_call, place_call, merge_call, fold_call};
-ghost use Rattle.answers.specs.Answers.{answer_of};
+ghost use Rattle.call_answers.specs.Answers.{answer_of};
 ghost use Rattle.calls.specs.Received.{first_of, answered};
-ghost use Rattle.exports.specs.Numbers.{number_of, bit, numbers_of, Leaves, LeavesPromised};
+ghost use Rattle.exports.specs.Numbers.{number_of, bit, numbers_of, ReturnsNumbers, ReturnsPromised};
 
-use answers::Answer;
+use call_answers::Answer;
 use calls::Received;
 
 // `number` and `numbers` are functions, since a `From` between types of other crates cannot stand here.
@@ -23,7 +23,8 @@ fn number(r: Option<Received>) -> u32
 }
 
 // 0 nobody, 1 the first, 2 the second.
-pub fn qptr_receiver(first: &[u8], second: &[u8]) -> u32
+#[unsafe(no_mangle)]
+pub extern "C" fn qptr_receiver(first: &[u8], second: &[u8]) -> u32
     ensures { result ≡ number_of (answered (receiver_of first.now second.now)) }
 {
     number(calls::receiving(first, second))
@@ -43,14 +44,16 @@ fn numbers(a: Answer) -> [u64; 5]
 }
 
 // The answer: number, yes or no, usage length, report length, pairings.
-pub fn qptr_sound(table: &[u8], work: &mut [u8], stream: &[u8], answer: &mut [u64; 5])
+#[unsafe(no_mangle)]
+pub extern "C" fn qptr_sound(table: &[u8], work: &mut [u8], stream: &[u8], answer: &mut [u64; 5])
     ensures { answer.new ≡ numbers_of (sound_call table.now (length work.old) stream.now) }
 {
     *answer = numbers(Answer::from(calls::sound(table, work, stream)));
 }
 
 // The answer as of `qptr_sound`.
-pub fn qptr_supports(
+#[unsafe(no_mangle)]
+pub extern "C" fn qptr_supports(
     table: &[u8],
     work: &mut [u8],
     ty: u32,
@@ -64,7 +67,8 @@ pub fn qptr_supports(
 }
 
 // The answer, and both buffers as they are left; so too of the next two.
-pub fn qptr_place(
+#[unsafe(no_mangle)]
+pub extern "C" fn qptr_place(
     table: &[u8],
     work: &mut [u8],
     first: &[u8],
@@ -74,7 +78,7 @@ pub fn qptr_place(
     report: &mut [u8],
     answer: &mut [u64; 5],
 )
-    ensures { Leaves (place_call table.now (length work.old) first.now offset second.now output.old (length report.old)) answer.new output.new report.new }
+    ensures { ReturnsNumbers (place_call table.now (length work.old) first.now offset second.now output.old (length report.old)) answer.new output.new report.new }
 {
     *answer = numbers(Answer::from(calls::place(
         table, work, first, offset, second, output, report,
@@ -82,7 +86,8 @@ pub fn qptr_place(
 }
 
 // Two tops.
-pub fn qptr_merge(
+#[unsafe(no_mangle)]
+pub extern "C" fn qptr_merge(
     table: &[u8],
     work: &mut [u8],
     first: &[u8],
@@ -91,13 +96,14 @@ pub fn qptr_merge(
     report: &mut [u8],
     answer: &mut [u64; 5],
 )
-    ensures { Leaves (merge_call table.now (length work.old) first.now second.now output.old (length report.old)) answer.new output.new report.new }
+    ensures { ReturnsNumbers (merge_call table.now (length work.old) first.now second.now output.old (length report.old)) answer.new output.new report.new }
 {
     *answer = numbers(Answer::from(calls::merge(table, work, first, second, output, report)));
 }
 
 // A list; with what is promised of sound nodes.
-pub fn qptr_fold(
+#[unsafe(no_mangle)]
+pub extern "C" fn qptr_fold(
     table: &[u8],
     work: &mut [u8],
     list: &[u8],
@@ -105,8 +111,8 @@ pub fn qptr_fold(
     report: &mut [u8],
     answer: &mut [u64; 5],
 )
-    ensures leaves { Leaves (fold_call table.now (length work.old) list.now output.old (length report.old)) answer.new output.new report.new }
-    ensures leaves_promised { LeavesPromised table.now list.now answer.new output.new }
+    ensures leaves { ReturnsNumbers (fold_call table.now (length work.old) list.now output.old (length report.old)) answer.new output.new report.new }
+    ensures leaves_promised { ReturnsPromised table.now list.now answer.new output.new }
 {
     *answer = numbers(Answer::from(calls::fold(table, work, list, output, report)));
 }

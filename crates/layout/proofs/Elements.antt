@@ -12,7 +12,7 @@ use Rattle.definitions.specs.If.{when◌then◌else◌}
 use Rattle.definitions.specs.Limits.{max32}
 use Rattle.definitions.specs.Table.{Setting, fixed_size}
 use Rattle.definitions.specs.Containment.{at_length, element_size, in_element, in_elements}
-use Rattle.layout.specs.Places.{Placed, Says}
+use Rattle.layout.specs.Located.{Located, Says}
 use Rattle.layout.specs.Containing.{size_in, InElements}
 use Rattle.layout.specs.declared.table.Array.{Array}
 use Rattle.layout.specs.declared.table.Table.{Table}
@@ -42,7 +42,7 @@ module _ (n len i : ℕ) where
 
 module _ (t : Table) (a : Array) (s e n : ℕ) (z : Says fixed_size t a.elem n) where
   -- what contains the range, by the element's size
-  by_size : {v : Maybe ℕ} → v ≡ element_size n a.len (s / a.stride) → (st : Setting) → Placed t st.table a.elem →
+  by_size : {v : Maybe ℕ} → v ≡ element_size n a.len (s / a.stride) → (st : Setting) → Located t st.table a.elem →
       in_elements st a.stride a.elem a.len s e ≡ in_element (record { type = a.elem; rest = s % a.stride }) (s / a.stride * a.stride) e v
   by_size is st p = rw (← z.is st.table p, ← is)
 

@@ -12,7 +12,7 @@ use Rattle.definitions.specs.Limits.{max32}
 use Rattle.definitions.specs.Table.{Table as Layouts, Field, layout_of, is_concrete, fixed_size, is_dynamic, is_empty, fields_admitted}
 use Rattle.numbers.specs.Words.{word}
 use Rattle.layout.specs.Bytes.{fields_at}
-use Rattle.layout.specs.Places.{Placed, Says, Stand, Earlier, FieldsAdmitted}
+use Rattle.layout.specs.Located.{Located, Says, Prefix, Earlier, FieldsAdmitted}
 use Rattle.layout.specs.declared.table.FieldList.{FieldList}
 use Rattle.layout.specs.declared.table.Table.{Table}
 use Rattle.layout.proofs.Fields.{fields_next}
@@ -21,7 +21,7 @@ use Rattle.layout.proofs.Types.{concrete_below}
 -- the fields before i are admitted, and the last of them ends at `end`
 pub record Remaining (t : Table) (fs : FieldList) (end i : ℕ) : Type 0 where
   pub within : i ≤ fs.count
-  pub is : (ls : Layouts) → Stand t ls →
+  pub is : (ls : Layouts) → Prefix t ls →
       fields_admitted ls 0 (fields_at t.bytes.now fs.at fs.count) ≡ fields_admitted ls end (fields_at t.bytes.now (fs.at + i * 8) (fs.count - i))
 
 module _ {t : Table} {fs : FieldList} where
@@ -33,7 +33,7 @@ module _ {t : Table} {fs : FieldList} where
     split : fields_at t.bytes.now (fs.at + i * 8) (fs.count - i) ≡ record { offset = o; type = ty } ∷ others
     split = rw (at-o, at-ty) (fields_next t.bytes.now fs.at fs.count i l)
 
-    chain : (ls : Layouts) → Stand t ls → fields_admitted ls 0 (fields_at t.bytes.now fs.at fs.count) ≡
+    chain : (ls : Layouts) → Prefix t ls → fields_admitted ls 0 (fields_at t.bytes.now fs.at fs.count) ≡
         (let end' = o + fixed_size (layout_of ls ty) in
         is_concrete (layout_of ls ty) && (leb end o && (leb end' max32 && ((not (is_dynamic (layout_of ls ty)) || is_empty others) && fields_admitted ls end' others))))
     chain ls st = h.is ls st ∙ ap (fields_admitted ls end) split
@@ -54,7 +54,7 @@ module _ {t : Table} {fs : FieldList} where
       too_early g = record { is = λ ls st. rw (chain ls st, ← e.is ls st, not-false b f, lt-leb end o g) }
 
       -- the type is one of the table's
-      placed : {ls : Layouts} → Stand t ls → Placed t ls ty
+      placed : {ls : Layouts} → Prefix t ls → Located t ls ty
       placed st = st.placed ty (concrete_below st e f)
 
       module _ {size : ℕ} (g : end ≤ o) (z : Says fixed_size t ty size) where
@@ -65,7 +65,7 @@ module _ {t : Table} {fs : FieldList} where
 
         module _ {d : Bool} (k : o + size < 4294967296) (v : Says is_dynamic t ty d) where
           -- the field keeps the rules, and what is left to be said depends on its type
-          kept : (ls : Layouts) → Stand t ls → fields_admitted ls 0 (fields_at t.bytes.now fs.at fs.count) ≡ ((not d || is_empty others) && fields_admitted ls (o + size) others)
+          kept : (ls : Layouts) → Prefix t ls → fields_admitted ls 0 (fields_at t.bytes.now fs.at fs.count) ≡ ((not d || is_empty others) && fields_admitted ls (o + size) others)
           kept ls st = rw (chain ls st, ← e.is ls st, not-false b f, le-leb end o g, ← z.is ls (placed st), le-leb (o + size) max32 (omega arith), ← v.is ls (placed st))
 
           pub last_field : d ≡ true → FieldsAdmitted t fs (eqb (i + 1) fs.count)

@@ -9,7 +9,7 @@ use Rattle.std.specs.Prelude.{Option, Some, None}
 use lib.ListN.{length, take}
 use Rattle.definitions.specs.Table.{Table as Layouts, Setting, concrete, layout_of, admitted}
 use Rattle.layout.specs.Values.{parts_of, layout_in, Formed, FormedParts}
-use Rattle.layout.specs.Places.{Places, InTable, LayoutIs}
+use Rattle.layout.specs.Located.{AllLocated, InTable, LayoutIs}
 use Rattle.layout.specs.Containing.{containing_from, Next, From, InElements, FieldType, FieldsInTable, InFields, Finds}
 use Rattle.layout.specs.declared.table.Components.{Components}
 use Rattle.layout.specs.declared.table.Components.TheVariants.{Elements, Fields}
@@ -31,15 +31,15 @@ from_known (Some c) f p = f c.ty p
 from_known None f p = tt
 
 module _ {t : Table} {ty : ℕ} {r : TypeLayout} {size d : ℕ} {cs v : Components} (l : LayoutIs t ty r) (y : r ≡ Concrete size d cs) (y' : cs ≡ v) where
-  layout_known : (ls : Layouts) → Places t ls → ty < length ls → concrete size d (parts_of t.bytes.now v) ≡ layout_of ls ty
+  layout_known : (ls : Layouts) → AllLocated t ls → ty < length ls → concrete size d (parts_of t.bytes.now v) ≡ layout_of ls ty
   layout_known ls p h =
       ap (λ (v : Components). concrete size d (parts_of t.bytes.now v)) (sym y') ∙ ap (layout_in t.bytes.now) (sym y) ∙ l.is ls (p ty h)
 
-  parts_admitted : (ls : Layouts) → Places t ls → ty < length ls → admitted (take ty ls) (concrete size d (parts_of t.bytes.now v)) ≡ true
+  parts_admitted : (ls : Layouts) → AllLocated t ls → ty < length ls → admitted (take ty ls) (concrete size d (parts_of t.bytes.now v)) ≡ true
   parts_admitted ls p h = rw (layout_known ls p h) (p ty h).admits
 
   pub finds : {from s e : ℕ} (a : Option Component) → From (λ c. c < ty) a →
-      ((st : Setting) → Places t st.table → ty < length st.table → Next (containing_from st (parts_of t.bytes.now v) s e) from a) → Finds t ty from s e a
+      ((st : Setting) → AllLocated t st.table → ty < length st.table → Next (containing_from st (parts_of t.bytes.now v) s e) from a) → Finds t ty from s e a
   finds {from} {s} {e} a below f = record {
     earlier = below;
     is = λ st p h n d' cs' x.
@@ -50,7 +50,7 @@ module _ {t : Table} {ty : ℕ} {r : TypeLayout} {size d : ℕ} {cs v : Componen
 
 module _ {t : Table} {ty : ℕ} {r : TypeLayout} {size d : ℕ} {b : Array} {cs : Components} (w : InTable t ty) (l : LayoutIs t ty r)
     (y : r ≡ Concrete size d cs) (y' : cs ≡ Elements b) where
-  element_in : (ls : Layouts) → Places t ls → ty < length ls → (b.elem < ty) × (b.elem < length ls)
+  element_in : (ls : Layouts) → AllLocated t ls → ty < length ls → (b.elem < ty) × (b.elem < length ls)
   element_in ls p h = first_in_lem ls ty b.elem (parts_admitted l y y' ls p h)
 
   pub some_stride : 0 < b.stride
@@ -69,7 +69,7 @@ module _ {t : Table} {ty : ℕ} {r : TypeLayout} {size d : ℕ} {b : Array} {cs 
 
 module _ {t : Table} {ty : ℕ} {r : TypeLayout} {size d : ℕ} {fs : FieldList} {cs : Components} (w : InTable t ty) (l : LayoutIs t ty r)
     (y : r ≡ Concrete size d cs) (y' : cs ≡ Fields fs) where
-  field_in : (ls : Layouts) → Places t ls → ty < length ls → {c : ℕ} → FieldType t.bytes.now fs c → (c < ty) × (c < length ls)
+  field_in : (ls : Layouts) → AllLocated t ls → ty < length ls → {c : ℕ} → FieldType t.bytes.now fs c → (c < ty) × (c < length ls)
   field_in ls p h {c} f =
       first_in_lem ls ty c (rw f.is (field_concrete (take ty ls) t.bytes.now 0 fs.at fs.count (parts_admitted l y y' ls p h) f.index f.below))
 

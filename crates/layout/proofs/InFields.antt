@@ -11,7 +11,7 @@ use Rattle.definitions.specs.Table.{Setting, fields}
 use Rattle.definitions.specs.Containment.{in_fields}
 use Rattle.numbers.specs.Words.{word}
 use Rattle.layout.specs.Bytes.{fields_at}
-use Rattle.layout.specs.Places.{Placed}
+use Rattle.layout.specs.Located.{Located}
 use Rattle.layout.specs.Containing.{containing_from, Contains, FieldType, InFields}
 use Rattle.layout.specs.declared.table.Field.{Field}
 use Rattle.layout.specs.declared.table.FieldList.{FieldList}
@@ -22,7 +22,7 @@ use Rattle.layout.proofs.Fields.{fields_from, fields_next}
 
 pub record Seeking (t : Table) (fs : FieldList) (from s e i : ℕ) : Type 0 where
   pub started : from ≤ i
-  pub is : (st : Setting) → ((ty : ℕ) → FieldType t.bytes.now fs ty → Placed t st.table ty) →
+  pub is : (st : Setting) → ((ty : ℕ) → FieldType t.bytes.now fs ty → Located t st.table ty) →
       containing_from st (fields (fields_at t.bytes.now fs.at fs.count)) s e from ≡ in_fields st (fields_at t.bytes.now (fs.at + i * 8) (fs.count - i)) s e
 
 module _ {t : Table} {fs : FieldList} {from s e : ℕ} where
@@ -35,7 +35,7 @@ module _ {t : Table} {fs : FieldList} {from s e : ℕ} where
       this : FieldType t.bytes.now fs f.ty
       this = record { index = i; below = l; is = at-ty }
 
-      judged : (st : Setting) → ((ty : ℕ) → FieldType t.bytes.now fs ty → Placed t st.table ty) →
+      judged : (st : Setting) → ((ty : ℕ) → FieldType t.bytes.now fs ty → Located t st.table ty) →
           containing_from st (fields (fields_at t.bytes.now fs.at fs.count)) s e from ≡
           (when r then record { type = f.ty; rest = s - f.offset } ∷ in_fields st (fields_at t.bytes.now (fs.at + (i + 1) * 8) (fs.count - (i + 1))) s e
           else in_fields st (fields_at t.bytes.now (fs.at + (i + 1) * 8) (fs.count - (i + 1))) s e)

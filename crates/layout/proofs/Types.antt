@@ -9,7 +9,7 @@ use lib.ListN.{length, get_or, get_or-eq_default}
 use borrow.Author.Tests.{not-false}
 use Rattle.definitions.specs.Table.{Table as Layouts, failed, layout_of, is_concrete}
 use Rattle.layout.specs.Values.{Whole}
-use Rattle.layout.specs.Places.{InTable, Stand, Earlier}
+use Rattle.layout.specs.Located.{InTable, Prefix, Earlier}
 use Rattle.layout.specs.declared.table.Table.{Table}
 
 -- a type that is not among them is not concrete there
@@ -24,9 +24,9 @@ concrete_in ls ty h =
     ]
 
 module _ {t : Table} {ty : ℕ} where
-  pub record_at : {at : ℕ} → at ≡ get_or t.places.now ty 0 → InTable t ty → Whole t.bytes.now at
+  pub record_at : {at : ℕ} → at ≡ get_or t.starts.now ty 0 → InTable t ty → Whole t.bytes.now at
   record_at e w = let p = w.placed ty w.below in record { layout = layout_of w.layouts ty; rest = p.rest; stands = rw e p.stands }
 
   -- where the table has a place for each earlier record, a concrete type is one of them
-  pub concrete_below : {b : Bool} {ls : Layouts} → Stand t ls → Earlier t ty b → not b ≡ false → ty < length ls
+  pub concrete_below : {b : Bool} {ls : Layouts} → Prefix t ls → Earlier t ty b → not b ≡ false → ty < length ls
   concrete_below {b} {ls} st e f = concrete_in ls ty (sym (e.is ls st) ∙ not-false b f)

@@ -8,21 +8,21 @@ use mathlib.Core.List.{List}
 use Rattle.std.specs.Prelude.{Option, Some}
 use Rattle.definitions.specs.Table.{Setting, Components, scalar, elements, fields}
 use Rattle.definitions.specs.Containment.{containing}
-use Rattle.layout.specs.Places.{Known, InTable, Holds, Found}
+use Rattle.layout.specs.Located.{Known, InTable, Holds, Found}
 use Rattle.layout.specs.Containing.{containing_from, Finds}
 use Rattle.layout.specs.declared.containment.Component.{Component}
 use Rattle.layout.specs.declared.table.Table.{Table}
 
 -- The table that was accepted, over its places
 
-module _ {t : Table} {s places : List ℕ} {n : ℕ} where
-  pub holds_whole : t.bytes.now ≡ s → t.places.now ≡ places → Holds t s places n
+module _ {t : Table} {s starts : List ℕ} {n : ℕ} where
+  pub holds_whole : t.bytes.now ≡ s → t.starts.now ≡ starts → Holds t s starts n
   holds_whole e f = record { bytes = e; first = rw f }
 
-  pub known : (f : Found s places n) → Holds t s places n → Known t (record { table = f.layouts })
+  pub known : (f : Found s starts n) → Holds t s starts n → Known t (record { table = f.layouts })
   known f h = record { read = rw h.bytes f.is; placed = f.placed t h }
 
-  pub table_type : (ty : ℕ) → Found s places n → Holds t s places n → ty < n → InTable t ty
+  pub table_type : (ty : ℕ) → Found s starts n → Holds t s starts n → ty < n → InTable t ty
   table_type ty f h l = record { layouts = f.layouts; placed = f.placed t h; below = omega (arith, f.count) }
 
 module _ {t : Table} {ty from s e : ℕ} {r : Option Component} {c : Component} (f : Finds t ty from s e r) (y : r ≡ Some c) where

@@ -6,7 +6,7 @@ use Rattle.definitions.specs.Table.{Table as Layouts, Setting, Components as Par
 use Rattle.definitions.specs.Containment.{Inside, in_elements, in_fields}
 use Rattle.numbers.specs.Words.{word}
 use Rattle.layout.specs.Bytes.{fields_at}
-use Rattle.layout.specs.Places.{Placed, Places, InTable}
+use Rattle.layout.specs.Located.{Located, AllLocated, InTable}
 use Rattle.layout.specs.declared.table.Array.{Array}
 use Rattle.layout.specs.declared.containment.Component.{Component}
 use Rattle.layout.specs.declared.table.Field.{Field}
@@ -37,12 +37,12 @@ From P r = IfSome r (λ c. P c.ty)
 
 pub record InElements (t : Table) (a : Array) (s e : ℕ) (r : Option Component) : Type 0 where
   pub type : From (λ c. c ≡ a.elem) r
-  pub is : (st : Setting) → Placed t st.table a.elem → Next (containing_from st (elements a.stride a.elem a.len) s e) 0 r
+  pub is : (st : Setting) → Located t st.table a.elem → Next (containing_from st (elements a.stride a.elem a.len) s e) 0 r
 
 -- a field contains the range
 pub record Contains (t : Table) (f : Field) (s e : ℕ) (r : Bool) : Type 0 where
   pub starts : r ≡ true → f.offset ≤ s
-  pub is : (ls : Layouts) → Placed t ls f.ty →
+  pub is : (ls : Layouts) → Located t ls f.ty →
       r ≡ (leb f.offset s && (is_dynamic (layout_of ls f.ty) || leb e (f.offset + fixed_size (layout_of ls f.ty))))
 
 -- it is the type of one of the fields, in the bytes b
@@ -57,12 +57,12 @@ pub record FieldsInTable (t : Table) (fs : FieldList) : Type 0 where
 
 pub record InFields (t : Table) (fs : FieldList) (from s e : ℕ) (r : Option Component) : Type 0 where
   pub type : From (FieldType t.bytes.now fs) r
-  pub is : (st : Setting) → ((ty : ℕ) → FieldType t.bytes.now fs ty → Placed t st.table ty) →
+  pub is : (st : Setting) → ((ty : ℕ) → FieldType t.bytes.now fs ty → Located t st.table ty) →
       Next (containing_from st (fields (fields_at t.bytes.now fs.at fs.count)) s e) from r
 
 -- A whole layout. A component's type is an earlier one.
 
 pub record Finds (t : Table) (ty from s e : ℕ) (r : Option Component) : Type 0 where
   pub earlier : From (λ c. c < ty) r
-  pub is : (st : Setting) → Places t st.table → ty < length st.table →
+  pub is : (st : Setting) → AllLocated t st.table → ty < length st.table →
       (n d : ℕ) (cs : Parts) → layout_of st.table ty ≡ concrete n d cs → Next (containing_from st cs s e) from r

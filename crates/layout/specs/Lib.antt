@@ -1,4 +1,4 @@
 pub mod Bytes
 pub mod Values
-pub mod Places
+pub mod Located
 pub mod Containing

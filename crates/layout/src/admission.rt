@@ -1,7 +1,7 @@
 // The rules among records: which may stand in a table behind those before it.
 ghost use Rattle.std.specs.Prelude.{◌+◌, ◌*◌, ◌≤◌, length};
 ghost use Rattle.layout.specs.Values.{Whole};
-ghost use Rattle.layout.specs.Places.{Standing, Earlier, FieldsAdmitted, Admitted};
+ghost use Rattle.layout.specs.Located.{HasPrefix, Earlier, FieldsAdmitted, Admitted};
 
 use crate::format::{field_at, layout_at};
 use crate::table::{Components, Field, FieldList, Table, TypeLayout};
@@ -9,15 +9,15 @@ use crate::table::{Components, Field, FieldList, Table, TypeLayout};
 impl Table<'_> {
     // Is this the type of a concrete record of the table, which has the records so far?
     fn is_earlier(&self, ty: u32) -> bool
-        requires { Standing self.now }
+        requires { HasPrefix self.now }
         ensures { Earlier self.now ty result }
     {
-        (ty as usize) < self.places.len() && self.is_concrete(ty)
+        (ty as usize) < self.starts.len() && self.is_concrete(ty)
     }
 
     // Does each field have an earlier concrete type, start no earlier than the one before it ends, and end within 32 bits?
     fn fields_admitted(&self, fields: FieldList) -> bool
-        requires standing { Standing self.now }
+        requires standing { HasPrefix self.now }
         requires count_in_bounds { fields.at + fields.count * 8 ≤ length self.now.bytes.now }
         ensures { FieldsAdmitted self.now fields result }
     {
@@ -44,7 +44,7 @@ impl Table<'_> {
 
     // Do the components of the record here keep the rules, where the table has the records before it?
     pub(super) fn is_admitted(&self, at: usize) -> bool
-        requires standing { Standing self.now }
+        requires standing { HasPrefix self.now }
         requires whole { Whole self.now.bytes.now at }
         ensures { Admitted self.now at result }
     {

@@ -2,7 +2,7 @@
 ghost use Rattle.std.specs.Prelude.{◌≡◌, ◌<◌};
 ghost use Rattle.definitions.specs.Containment.{end_of, at_length, element_size};
 ghost use Rattle.qptr.specs.Values.{size_of};
-ghost use Rattle.layout.specs.Places.{InTable};
+ghost use Rattle.layout.specs.Located.{InTable};
 ghost use Rattle.layout.specs.Containing.{size_in, InElements, Contains, FieldsInTable, InFields, Finds};
 
 use crate::format::field_at;

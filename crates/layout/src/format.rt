@@ -7,7 +7,7 @@ use crate::table::{Array, Components, Field, FieldList, TypeLayout};
 use numbers::{get16, get32};
 
 // How many fields a record may have.
-const FIELDS: usize = 64;
+const MAX_FIELDS: usize = 64;
 
 // A record is one byte, its kind, and then for the first three kinds size and dynamic stride, 4 bytes each. Elements go on with
 // stride, component type and length, 4 bytes each, so 21 bytes in all; fields with their count, 2 bytes, and from byte 11 on
@@ -109,7 +109,7 @@ fn fields_end(s: &[u8], at: usize) -> Option<usize>
 {
     end_after(s, at, 11)?;
     let count = usize::from(get16(s, at + 9));
-    if FIELDS < count {
+    if MAX_FIELDS < count {
         return None;
     }
     end_after(s, at, 11 + count * 8)

@@ -4,7 +4,7 @@
 
 ghost use Rattle.std.specs.Prelude.{◌≡◌, true, ◌≤◌};
 ghost use Rattle.layout.specs.Bytes.{record_count};
-ghost use Rattle.layout.specs.Places.{Room, Accepted};
+ghost use Rattle.layout.specs.Located.{Room, Accepted};
 
 use format::record_end;
 use numbers::get16;
@@ -18,29 +18,29 @@ pub use containment::{Component, end_of};
 pub use table::{Array, Components, FieldList, Table, TypeLayout};
 
 // How many records a table may have.
-pub const RECORDS: usize = 1024;
+pub const MAX_RECORDS: usize = 1024;
 
 // As many records as most tables have at most.
-pub const FEW: usize = 32;
+pub const FEW_RECORDS: usize = 32;
 
 // Does a table say that it has few records?
 pub fn has_few(s: &[u8]) -> bool
     ensures { result ≡ true → record_count s.now ≤ 32 }
 {
-    2 <= s.len() && usize::from(get16(s, 0)) <= FEW
+    2 <= s.len() && usize::from(get16(s, 0)) <= FEW_RECORDS
 }
 
-// Is this a layout table? How many records it has, if it is. Where each record begins is kept in `places`, for a `Table` over both.
+// Is this a layout table? How many records it has, if it is. Where each record begins is kept in `starts`, for a `Table` over both.
 // A table that is accepted has at most 535,554 bytes, so a place fits 32 bits, to which it is cut by `as`.
-pub fn accept(s: &[u8], places: &mut [u32]) -> Option<usize>
-    requires { Room s.now places.old }
-    ensures { Accepted s.now result places.new }
+pub fn accept(s: &[u8], starts: &mut [u32]) -> Option<usize>
+    requires { Room s.now starts.old }
+    ensures { Accepted s.now result starts.new }
 {
     if s.len() < 2 {
         return None;
     }
     let count = usize::from(get16(s, 0));
-    if RECORDS < count {
+    if MAX_RECORDS < count {
         return None;
     }
     let mut at: usize = 2;
@@ -48,12 +48,12 @@ pub fn accept(s: &[u8], places: &mut [u32]) -> Option<usize>
         let end = record_end(s, at)?;
         let earlier = Table {
             bytes: s,
-            places: &places[..n],
+            starts: &starts[..n],
         };
         if !earlier.is_admitted(at) {
             return None;
         }
-        places[n] = at as u32;
+        starts[n] = at as u32;
         at = end;
     }
     if at < s.len() {

@@ -1,7 +1,7 @@
 // A layout table and what it can be asked: the layout of a type, its size, and whether it is dynamic. A stride or a length of
 // 0 is none, as it stands in the table.
 ghost use Rattle.definitions.specs.Table.{is_concrete, fixed_size, is_dynamic};
-ghost use Rattle.layout.specs.Places.{InTable, LayoutIs, Says};
+ghost use Rattle.layout.specs.Located.{InTable, LayoutIs, Says};
 
 use crate::format::layout_at;
 
@@ -10,7 +10,7 @@ use crate::format::layout_at;
 #[derive(Clone, Copy)]
 pub struct Table<'a> {
     pub bytes: &'a [u8],
-    pub places: &'a [u32],
+    pub starts: &'a [u32],
 }
 
 // The layout of a type, in document 01's three cases, of which none is an error of this crate. A handle stands for an array of handles too.
@@ -62,7 +62,7 @@ impl Table<'_> {
         requires { InTable self.now ty }
         ensures { LayoutIs self.now ty result }
     {
-        layout_at(self.bytes, self.places[ty as usize] as usize)
+        layout_at(self.bytes, self.starts[ty as usize] as usize)
     }
 
     pub fn is_concrete(&self, ty: u32) -> bool

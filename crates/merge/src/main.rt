@@ -27,6 +27,6 @@ fn main(rt: HostRuntime) -> io::Result<()> {
     let mut input = [0u8; 65537];
     let mut line = [0u8; 65560];
     let n = read_full(&mut rt.stdin(), &mut input)?;
-    let m = frame::line(&input[..n], &mut line);
+    let m = merge_line::line(&input[..n], &mut line);
     rt.write_all(&line[..m])
 }

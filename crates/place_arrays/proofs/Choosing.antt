@@ -7,16 +7,16 @@ use Rattle.definitions.specs.Command.{head_of}
 use Rattle.definitions.specs.Table.{Setting}
 use Rattle.definitions.specs.Place.{done, stride_conflict, after, place_by_kind, place}
 use Rattle.records.specs.Records.{command_in, child_in, argument_in}
-use Rattle.links.specs.Standing.{Stands}
-use Rattle.links.proofs.ByCommand.{IsArray, is_array}
-use Rattle.links.proofs.Stands.{stands_wide, stands_le}
-use Rattle.links.proofs.Frames.{kept_none}
+use Rattle.record_links.specs.Standing.{Stands}
+use Rattle.record_links.proofs.ByCommand.{IsArray, is_array}
+use Rattle.record_links.proofs.Stands.{stands_wide, stands_le}
+use Rattle.record_links.proofs.Frames.{kept_none}
 use Rattle.report.specs.Emitted.{Emitted}
 use Rattle.report.specs.declared.Report.{Report}
 use Rattle.place_states.specs.Calls.{Two, ground}
 use Rattle.place_states.specs.States.{Pending, Next}
 use Rattle.place_states.specs.Starts.{Plain, Starts}
-use Rattle.place_states.specs.Ends.{finished_state}
+use Rattle.place_states.specs.Finished.{finished_state}
 use Rattle.place_states.specs.declared.State.{State}
 use Rattle.place_states.proofs.Ending.{next_kept}
 use Rattle.place_states.proofs.Roots.{left_array, right_array, right_size, right_command, right_plain}

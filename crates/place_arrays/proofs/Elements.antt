@@ -8,7 +8,7 @@ use Rattle.definitions.specs.Command.{head_of}
 use Rattle.definitions.specs.Table.{Setting}
 use Rattle.definitions.specs.Place.{Result, refused, done, under, after, stride_conflict, fits_stride, element_of, place_in_element, place_in_array, place}
 use Rattle.definitions.proofs.PlaceFuel.{merge_mem_is}
-use Rattle.place_states.specs.Beyond.{element, finish, resume, act}
+use Rattle.place_states.specs.Continuation.{element, finish, resume, act}
 use Rattle.place_arrays.specs.Arrays.{element_pairing}
 
 no_element : (r stride : ℕ) (b : Usage) → (r ≡ 0 → (head_of b).command ≡ 4 → (head_of b).argument ≡ stride → ⊥) → element_of r stride b ≡ nothing

@@ -7,12 +7,12 @@ use Rattle.definitions.specs.Table.{Setting}
 use Rattle.definitions.specs.Place.{Result, under, after}
 use Rattle.definitions.specs.Sound.{Storable}
 use Rattle.records.specs.Records.{child_in}
-use Rattle.links.specs.Standing.{Stands}
-use Rattle.links.proofs.Frames.{kept_none}
+use Rattle.record_links.specs.Standing.{Stands}
+use Rattle.record_links.proofs.Frames.{kept_none}
 use Rattle.report.proofs.Emitting.{emitted_nothing}
 use Rattle.report.specs.declared.Report.{Report}
 use Rattle.place_states.specs.Calls.{ground}
-use Rattle.place_states.specs.Beyond.{element, act}
+use Rattle.place_states.specs.Continuation.{element, act}
 use Rattle.place_states.specs.States.{Outside, Pending}
 use Rattle.place_states.proofs.Room.{room_first}
 use Rattle.place_arrays.specs.Arrays.{element_pairing, element_state}

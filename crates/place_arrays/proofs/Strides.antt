@@ -5,8 +5,8 @@ use Rattle.std.proofs.Math.Nat.{mod-lt}
 use Rattle.definitions.specs.Usage.{Usage}
 use Rattle.definitions.specs.Command.{head_of}
 use Rattle.records.specs.Records.{command_in, argument_in}
-use Rattle.links.specs.Standing.{Stands}
-use Rattle.links.proofs.ByCommand.{IsArray, is_array, array_of}
+use Rattle.record_links.specs.Standing.{Stands}
+use Rattle.record_links.proofs.ByCommand.{IsArray, is_array, array_of}
 use Rattle.place_states.specs.Calls.{Two, Beside}
 use Rattle.place_states.proofs.Roots.{left_array}
 

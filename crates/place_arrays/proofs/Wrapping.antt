@@ -8,15 +8,15 @@ use Rattle.definitions.specs.Usage.{Usage, array}
 use Rattle.definitions.specs.Table.{Setting}
 use Rattle.definitions.specs.Place.{done}
 use Rattle.records.specs.Records.{Cell, cell, with_child, Set}
-use Rattle.links.specs.Standing.{Root, Stands}
-use Rattle.links.specs.Frames.{Kept}
-use Rattle.links.proofs.Stands.{stands_root, stands_le, stands_still, stands_wide, root_wide}
-use Rattle.links.proofs.Frames.{kept_set, kept_trans, kept_widen, apart}
-use Rattle.links.proofs.Changes.{root_set}
+use Rattle.record_links.specs.Standing.{Root, Stands}
+use Rattle.record_links.specs.Frames.{Kept}
+use Rattle.record_links.proofs.Stands.{stands_root, stands_le, stands_still, stands_wide, root_wide}
+use Rattle.record_links.proofs.Frames.{kept_set, kept_trans, kept_widen, apart}
+use Rattle.record_links.proofs.Changes.{root_set}
 use Rattle.place_states.specs.Calls.{Ground}
-use Rattle.place_states.specs.Beyond.{Beyond, finish}
-use Rattle.place_states.specs.States.{Outside, Standing, Next, Waiting, Moves}
-use Rattle.place_states.specs.Ends.{finished_state}
+use Rattle.place_states.specs.Continuation.{Continuation, finish}
+use Rattle.place_states.specs.States.{Outside, SoFar, Next, Waiting, Moves}
+use Rattle.place_states.specs.Finished.{finished_state}
 use Rattle.place_states.specs.declared.State.{State}
 use Rattle.place_states.proofs.Ending.{next_finished, moves_finished}
 use Rattle.place_states.proofs.Outside.{IsElement, is_element, standing_element, waiting_element}
@@ -26,7 +26,7 @@ pub root_inside : (s : List ℕ) (a : ℕ) (st : State) → Waiting s a st → s
 unfolding Outside
 root_inside s a st W rule = go (waiting_element W rule) W.outside
   where
-    go : {y : Beyond} → IsElement y → Outside W.k y s a st W.rank W.lo W.c W.e W.hi → a * 32 + 32 ≤ length s
+    go : {y : Continuation} → IsElement y → Outside W.k y s a st W.rank W.lo W.c W.e W.hi → a * 32 + 32 ≤ length s
     go (is_element z n) h = h.root.inside
 
 pub element_small : (s : List ℕ) (a : ℕ) (st : State) → Waiting s a st → st.x < 65536
@@ -39,8 +39,8 @@ wrapped s s₁ a st st' rule len C e = record {
   moves = λ rep. moves_finished s rep a st s₁ rep st' a st.pairings e (λ setting y u w p g n within S short. go rep setting n (standing_element S rule) S);
 }
   where
-    go : (rep : Report) (setting : Setting) {y : Beyond} {u : Usage} {w : List ℕ} {p : ℕ} {g : Ground} (n : ℕ) → IsElement y
-        → Standing (length setting.table) y u w p g s rep a st → Next setting (finish setting y u w p) g n s₁ rep a (finished_state a st.pairings)
+    go : (rep : Report) (setting : Setting) {y : Continuation} {u : Usage} {w : List ℕ} {p : ℕ} {g : Ground} (n : ℕ) → IsElement y
+        → SoFar (length setting.table) y u w p g s rep a st → Next setting (finish setting y u w p) g n s₁ rep a (finished_state a st.pairings)
     go rep setting {u} {w} {p} {g} n (is_element z k) S =
         let h = S.outside in
         let r : ℕ → ℕ = S.rank in

@@ -6,7 +6,7 @@ use Rattle.definitions.specs.Usage.{Size, Usage, map, Entries, none, entry}
 use Rattle.definitions.specs.Table.{Setting}
 use Rattle.definitions.specs.Place.{Result, refused, done, of_entry, of_rule, headed, after, and_then, place_entries, place_by_kind, place}
 use Rattle.definitions.proofs.After.{after_nothing, after_both}
-use Rattle.place_states.specs.Beyond.{entries, finish, resume, act}
+use Rattle.place_states.specs.Continuation.{entries, finish, resume, act}
 
 module _ (st : Setting) where
   pub finish_none : (u : Usage) (w : List ℕ) (p : ℕ) → finish st (entries none) u w p ≡ done u (of_rule w) (suc p)

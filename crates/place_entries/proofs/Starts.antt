@@ -6,14 +6,14 @@ use Rattle.definitions.specs.Usage.{Size, Usage, map, Entries, nodes}
 use Rattle.definitions.specs.Table.{Setting}
 use Rattle.definitions.specs.Place.{after, place_by_kind, place}
 use Rattle.records.specs.Records.{command_in, child_in}
-use Rattle.links.specs.Standing.{Stands}
-use Rattle.links.proofs.ByCommand.{IsMap, is_map}
-use Rattle.links.proofs.Stands.{row_low}
-use Rattle.links.proofs.Frames.{kept_none}
+use Rattle.record_links.specs.Standing.{Stands}
+use Rattle.record_links.proofs.ByCommand.{IsMap, is_map}
+use Rattle.record_links.proofs.Stands.{row_low}
+use Rattle.record_links.proofs.Frames.{kept_none}
 use Rattle.report.specs.Emitted.{Emitted}
 use Rattle.report.specs.declared.Report.{Report}
 use Rattle.place_states.specs.Calls.{Two, ground}
-use Rattle.place_states.specs.Beyond.{entries}
+use Rattle.place_states.specs.Continuation.{entries}
 use Rattle.place_states.specs.States.{Placing, Outside, Held}
 use Rattle.place_states.specs.Starts.{Starts}
 use Rattle.place_states.specs.declared.State.{State}

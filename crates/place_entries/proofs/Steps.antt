@@ -8,18 +8,18 @@ use Rattle.definitions.specs.Table.{Setting}
 use Rattle.definitions.specs.Place.{done, of_rule}
 use Rattle.definitions.specs.Stream.{bytes}
 use Rattle.records.specs.Records.{next_in, offset_in}
-use Rattle.links.specs.Standing.{Stands}
-use Rattle.links.specs.Rows.{chain}
-use Rattle.links.proofs.Chains.{row_falls}
-use Rattle.links.proofs.Entries.{few_entries}
-use Rattle.links.proofs.Stands.{stands_root, stands_wide}
+use Rattle.record_links.specs.Standing.{Stands}
+use Rattle.record_links.specs.Rows.{chain}
+use Rattle.record_links.proofs.Chains.{row_falls}
+use Rattle.record_links.proofs.Entries.{few_entries}
+use Rattle.record_links.proofs.Stands.{stands_root, stands_wide}
 use Rattle.report.specs.Emitted.{Emitted}
 use Rattle.report.proofs.Emitting.{emitted_after}
 use Rattle.report.specs.declared.Report.{Report}
 use Rattle.place_states.specs.Calls.{Ground}
-use Rattle.place_states.specs.Beyond.{Beyond, entries, finish, outer}
-use Rattle.place_states.specs.States.{Outside, Standing, Pending, Next, Short, Waiting, Moves}
-use Rattle.place_states.specs.Ends.{finished_state, Unheaded}
+use Rattle.place_states.specs.Continuation.{Continuation, entries, finish, outer}
+use Rattle.place_states.specs.States.{Outside, SoFar, Pending, Next, Short, Waiting, Moves}
+use Rattle.place_states.specs.Finished.{finished_state, Unheaded}
 use Rattle.place_states.specs.declared.State.{State}
 use Rattle.place_states.specs.declared.Rule.TheVariants.{Entries as ByEntries}
 use Rattle.place_states.specs.declared.Pairing.TheVariants.{Place}
@@ -37,7 +37,7 @@ module _ (s : List ℕ) (a : ℕ) (st : State) (W : Waiting s a st) (rule : st.r
   unfolding Stands Outside
   rest_inside = go (waiting_entries W rule) W.outside
     where
-      go : {y : Beyond} → IsEntries y → Outside W.k y s a st W.rank W.lo W.c W.e W.hi → st.rest * 32 + 32 ≤ length s
+      go : {y : Continuation} → IsEntries y → Outside W.k y s a st W.rank W.lo W.c W.e W.hi → st.rest * 32 + 32 ≤ length s
       go (is_entries none) h = absurd (some h.held.0)
       go (is_entries (entry o v es)) h = (stands_root v s st.rest W.rank W.e h.held.0 h.held.2).inside
 
@@ -45,13 +45,13 @@ module _ (s : List ℕ) (a : ℕ) (st : State) (W : Waiting s a st) (rule : st.r
   unfolding Outside
   entries_fall = go (waiting_entries W rule) W.outside W.few
     where
-      go : {y : Beyond} → IsEntries y → Outside W.k y s a st W.rank W.lo W.c W.e W.hi → nodes W.u + outer y ≤ node_limit
+      go : {y : Continuation} → IsEntries y → Outside W.k y s a st W.rank W.lo W.c W.e W.hi → nodes W.u + outer y ≤ node_limit
           → chain 65536 s (next_in s st.rest) + 1 ≤ chain 65536 s st.rest
       go (is_entries es) h few = row_falls es s st.rest W.rank W.e W.hi (omega (arith, few_entries es)) some h.held
 
 module _ (s : List ℕ) (rep : Report) (a : ℕ) (st : State) (rule : st.rule ≡ ByEntries) where
   module _ (setting : Setting) {u : Usage} {w : List ℕ} {p : ℕ} {g : Ground} (n : ℕ) where
-    ends_none : {y : Beyond} → IsEntries y → Standing (length setting.table) y u w p g s rep a st → (rep₁ : Report) → st.rest ≡ 0 → Unheaded st.base rep rep₁
+    ends_none : {y : Continuation} → IsEntries y → SoFar (length setting.table) y u w p g s rep a st → (rep₁ : Report) → st.rest ≡ 0 → Unheaded st.base rep rep₁
         → Short g.report.at (finish setting y u w p) → Next setting (finish setting y u w p) g n s rep₁ a (finished_state st.x st.pairings)
     unfolding Stands Outside
     ends_none (is_entries (entry o v es)) S rep₁ none_left U short =
@@ -68,7 +68,7 @@ module _ (s : List ℕ) (rep : Report) (a : ℕ) (st : State) (rule : st.rule �
 
     module _ (rep₁ : Report) (o after mark : ℕ) (em : mark ≡ rep.at) (some : st.rest ≡ 0 → ⊥) (eo : o ≡ offset_in s st.rest) (ea : after ≡ next_in s st.rest)
         (E : Emitted rep (0x31 ∷ bytes 4 o) rep₁) where
-      goes_more : {y : Beyond} → IsEntries y → Standing (length setting.table) y u w p g s rep a st → nodes u + outer y ≤ n
+      goes_more : {y : Continuation} → IsEntries y → SoFar (length setting.table) y u w p g s rep a st → nodes u + outer y ≤ n
           → Pending Place setting (finish setting y u w p) g n s rep₁ a (entry_state st o after mark)
       unfolding Stands Outside
       goes_more (is_entries none) S within = absurd (some S.outside.held.0)

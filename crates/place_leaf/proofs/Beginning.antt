@@ -12,10 +12,10 @@ use Rattle.definitions.specs.Command.{head_of, typed_command}
 use Rattle.definitions.specs.Table.{Setting}
 use Rattle.definitions.specs.Place.{after, is_strict, place_by_kind, place}
 use Rattle.records.specs.Records.{command_in, cell, with_type, Set}
-use Rattle.links.proofs.Stands.{stands_le, stands_marks, stands_wide}
-use Rattle.links.proofs.Frames.{kept_marks, kept_set, kept_trans, kept_widen}
-use Rattle.links.proofs.Changes.{stands_type}
-use Rattle.layout.specs.Places.{Known}
+use Rattle.record_links.proofs.Stands.{stands_le, stands_marks, stands_wide}
+use Rattle.record_links.proofs.Frames.{kept_marks, kept_set, kept_trans, kept_widen}
+use Rattle.record_links.proofs.Changes.{stands_type}
+use Rattle.layout.specs.Located.{Known}
 use Rattle.layout.specs.declared.table.Table.{Table}
 use Rattle.qptr.specs.Values.{command_of, kind_of}
 use Rattle.qptr.specs.declared.Kind.{Kind}
@@ -24,12 +24,12 @@ use Rattle.report.specs.declared.Report.{Report}
 use Rattle.place_states.specs.Calls.{Two, ground}
 use Rattle.place_states.specs.States.{Next}
 use Rattle.place_states.specs.Starts.{Plain, Begins}
-use Rattle.place_states.specs.Ends.{finished_state}
+use Rattle.place_states.specs.Finished.{finished_state}
 use Rattle.place_states.specs.declared.State.{State}
 use Rattle.place_states.proofs.Ending.{next_finished}
 use Rattle.place_states.proofs.Roots.{left_root, left_command, right_command, right_plain}
-use Rattle.support_memory.specs.Nodes.{Unchanged}
-use Rattle.support_memory.proofs.Staying.{command_stays}
+use Rattle.support_cache.specs.Nodes.{Unchanged}
+use Rattle.support_cache.proofs.Staying.{command_stays}
 use Rattle.place_leaf.specs.Leaves.{Typed, Stricter, report_of, Keeps}
 use Rattle.place_leaf.specs.declared.Kept.{Kept}
 use Rattle.place_leaf.proofs.Typing.{IsLeaf, is_leaf, left_leaf}

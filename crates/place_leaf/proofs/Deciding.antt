@@ -5,7 +5,7 @@ use Rattle.std.specs.Prelude.{Result, Ok, Err}
 use Rattle.definitions.specs.Usage.{Usage}
 use Rattle.definitions.specs.Table.{Setting}
 use Rattle.definitions.specs.Place.{Kept as KeptType, asked}
-use Rattle.support.specs.Answers.{kept_by}
+use Rattle.support.specs.Supported.{kept_by}
 use Rattle.support.specs.declared.NotAsked.{NotAsked}
 use Rattle.support.specs.declared.NotAsked.TheVariants.{Handle, Failed}
 use Rattle.place_leaf.specs.Leaves.{kept_of, is_no, decided}

@@ -16,13 +16,13 @@ use Rattle.qptr.specs.Values.{command_of, kind_of}
 use Rattle.qptr.specs.declared.Kind.{Kind}
 use Rattle.qptr.specs.declared.Kind.TheVariants.{Unused, StrictlyTyped, DirectAccess, OffsetBase, DynOffsetBase}
 use Rattle.records.specs.Records.{command_in, argument_in}
-use Rattle.links.specs.Standing.{Stands}
-use Rattle.links.proofs.Stands.{stands_root}
+use Rattle.record_links.specs.Standing.{Stands}
+use Rattle.record_links.proofs.Stands.{stands_root}
 use Rattle.layout.specs.declared.table.Table.{Table}
-use Rattle.support_memory.proofs.Roots.{command_of_kind}
+use Rattle.support_cache.proofs.Roots.{command_of_kind}
 use Rattle.place_states.specs.Calls.{Two, Ready}
 use Rattle.place_states.proofs.Roots.{left_command}
-use Rattle.support.specs.Known.{Askable}
+use Rattle.support.specs.Askable.{Askable}
 use Rattle.place_leaf.specs.Leaves.{Typed, TypeAt}
 
 pub data IsLeaf : Usage → Type 0 where

@@ -7,10 +7,10 @@ use Rattle.definitions.specs.Table.{Setting}
 use Rattle.definitions.specs.Place.{type_at_zero, Kept as KeptType, kept_type, type_conflict, handle_conflict, failed_conflict}
 use Rattle.qptr.specs.declared.Kind.{Kind}
 use Rattle.qptr.specs.declared.Kind.TheVariants.{StrictlyTyped, DirectAccess}
-use Rattle.layout.specs.Places.{Known}
+use Rattle.layout.specs.Located.{Known}
 use Rattle.layout.specs.declared.table.Table.{Table}
 use Rattle.place_states.specs.Calls.{Two}
-use Rattle.support.specs.Answers.{OfEach}
+use Rattle.support.specs.Supported.{OfEach}
 use Rattle.support.specs.declared.NotAsked.{NotAsked}
 use Rattle.support.specs.declared.NotAsked.TheVariants.{Handle, Failed}
 use Rattle.place_leaf.specs.declared.Kept.{Kept}

@@ -6,7 +6,7 @@ ghost use Rattle.records.specs.Records.{command_in};
 ghost use Rattle.report.specs.Emitted.{Emitted};
 ghost use Rattle.place_states.specs.Calls.{Ready};
 ghost use Rattle.place_states.specs.Starts.{Plain, Begins};
-ghost use Rattle.support_memory.specs.Nodes.{Unchanged};
+ghost use Rattle.support_cache.specs.Nodes.{Unchanged};
 ghost use Rattle.place_leaf.specs.Leaves.{Typed, TypeAt, Stricter, report_of, conflict_of, is_no, decided, Keeps};
 
 use layout::Table;

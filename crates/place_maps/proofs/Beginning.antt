@@ -15,21 +15,21 @@ use Rattle.definitions.specs.Place.{refused, ends, past32, ◌≤ˢ◌, after, o
 use Rattle.definitions.specs.Sound.{Storable, Ascends}
 use Rattle.definitions.proofs.Nodes.{append_nodes}
 use Rattle.records.specs.Records.{Cell, command_in, child_in, size_in}
-use Rattle.links.specs.Standing.{Root, Finger, Stands, Row}
-use Rattle.links.specs.Rows.{Up, onto}
-use Rattle.links.specs.Ranks.{rotated}
-use Rattle.links.specs.Frames.{Kept}
-use Rattle.links.proofs.Stands.{root_same, stands_le, row_le, up_le, stands_still, row_still, down_still, up_still}
-use Rattle.links.proofs.Frames.{kept_trans, kept_widen, apart}
-use Rattle.links.proofs.Ranks.{rot_kept, rot_right, row_left}
-use Rattle.links.proofs.Entries.{append_assoc, rev_twice, few_entries}
-use Rattle.links.proofs.Rows.{down_none}
-use Rattle.links.proofs.Shapes.{map_of}
+use Rattle.record_links.specs.Standing.{Root, Finger, Stands, Row}
+use Rattle.record_links.specs.Rows.{Up, onto}
+use Rattle.record_links.specs.Ranks.{rotated}
+use Rattle.record_links.specs.Frames.{Kept}
+use Rattle.record_links.proofs.Stands.{root_same, stands_le, row_le, up_le, stands_still, row_still, down_still, up_still}
+use Rattle.record_links.proofs.Frames.{kept_trans, kept_widen, apart}
+use Rattle.record_links.proofs.Ranks.{rot_kept, rot_right, row_left}
+use Rattle.record_links.proofs.Entries.{append_assoc, rev_twice, few_entries}
+use Rattle.record_links.proofs.Rows.{down_none}
+use Rattle.record_links.proofs.Shapes.{map_of}
 use Rattle.report.specs.Emitted.{Emitted}
 use Rattle.report.specs.declared.Report.{Report}
 use Rattle.report.proofs.Emitting.{kept_nothing}
 use Rattle.place_states.specs.Calls.{Two, Beside}
-use Rattle.place_states.specs.Beyond.{joins, join_down, finish, UpTo, FromOn}
+use Rattle.place_states.specs.Continuation.{joins, join_down, finish, UpTo, FromOn}
 use Rattle.place_states.specs.States.{Joins, Outside}
 use Rattle.place_states.specs.Starts.{Plain, Starts}
 use Rattle.std.specs.Prelude.{Option, Some, None, Result as Returned, Ok, Err}
@@ -42,10 +42,10 @@ use Rattle.place_states.specs.declared.Todo.TheVariants.{Go}
 use Rattle.place_states.specs.declared.Rule.TheVariants.{Join as ByJoin}
 use Rattle.place_states.proofs.Roots.{left_root, right_size, right_plain}
 use Rattle.place_states.proofs.Room.{room_first}
-use Rattle.place_search.specs.Numbers.{Marks, Past}
-use Rattle.place_search.specs.Parts.{Listed, Ended, nothing, by, Parted, Parts}
+use Rattle.place_search.specs.Numbers.{Denotes, Past}
+use Rattle.place_search.specs.Parts.{Listed, LastEndsBy, nothing, by, Parted, Parts}
 use Rattle.place_search.specs.declared.Overlap.{Overlap}
-use Rattle.place_maps.specs.Runs.{Ahead, Run, Turned}
+use Rattle.place_maps.specs.Runs.{Ahead, Run, Reversed}
 use Rattle.place_maps.proofs.Entries.{under_of, upto_one_more}
 use Rattle.place_maps.proofs.Overlaps.{Starting, high_starting, found_past, found_parts}
 use Rattle.place_maps.proofs.Downward.{join_down_lem}
@@ -99,7 +99,7 @@ parted_nodes G = omega (arith, ap nodes_in G.is, append_nodes (onto G.low_down n
 stood : {es : Entries} {r : ℕ → ℕ} {lo hi : ℕ} {s : List ℕ} {a d : ℕ} {e : Size} {b : Overlap} {c : Bool} (G : Parted es r lo hi s a d e b c) → Ahead true G.mid G.high none r G.m G.m G.n hi s b.first b.above 0
 stood {r = r} {s = s} G = record { run = G.mid_held; rest = G.high_held; back = (down_none s r G.m, refl) }
 
-pub run_of : {s : List ℕ} {a d b e : ℕ} {o : Option Overlap} {found : Overlap} → Beside s a b → command_in s a ≡ 3 → Marks e (ends d (size_in s b)) → Parts s a d e o → o ≡ Some found → Run s found.first found.above 0
+pub run_of : {s : List ℕ} {a d b e : ℕ} {o : Option Overlap} {found : Overlap} → Beside s a b → command_in s a ≡ 3 → Denotes e (ends d (size_in s b)) → Parts s a d e o → o ≡ Some found → Run s found.first found.above 0
 run_of {s} {a} {d} {b} {e} B c M F eo =
     let A = mapped B.two c in
     let G = (subst (Parts s a d e) eo F).parted (ends d (size_in s b)) A.es B.r (suc (B.r a)) B.mid M A.row A.finger in
@@ -139,7 +139,7 @@ by_starts : (d o : ℕ) (y : Size) → (ends o y ≤ˢ fixed d) ≡ true → o �
 by_starts d o dynamic e = absurd (false≢true e)
 by_starts d o (fixed n) e = omega (arith, leb-true (o + n) d e)
 
-upto_ended : (k d : ℕ) (e : Size) {es : Entries} (fs : Entries) → Ended d e es → Ascends k 0 (es <+> fs) → UpTo d es
+upto_ended : (k d : ℕ) (e : Size) {es : Entries} (fs : Entries) → LastEndsBy d e es → Ascends k 0 (es <+> fs) → UpTo d es
 upto_ended k d e fs nothing c = tt
 upto_ended k d e fs (by es o u start end) c =
     upto_one_more es o d u (under_of k es o u fs 0 (rw (append_assoc es (entry o u none) fs) at c)) (by_starts d o (size u) end)
@@ -161,8 +161,8 @@ not_found (Some b) x e h = cc
 
 -- Refused
 
-module _ {s : List ℕ} {a d b e : ℕ} (rep : Report) (P : Plain (command_in s b) d) (c : command_in s a ≡ 3) (M : Marks e (ends d (size_in s b))) where
-  refuses : ((setting : Setting) (z : Size) (es : Entries) (r : ℕ → ℕ) (lo mid : ℕ) (u : Usage) → Marks e (ends d (size u)) → Row es s (child_in s a) 0 r lo mid → Finger es s a
+module _ {s : List ℕ} {a d b e : ℕ} (rep : Report) (P : Plain (command_in s b) d) (c : command_in s a ≡ 3) (M : Denotes e (ends d (size_in s b))) where
+  refuses : ((setting : Setting) (z : Size) (es : Entries) (r : ℕ → ℕ) (lo mid : ℕ) (u : Usage) → Denotes e (ends d (size u)) → Row es s (child_in s a) 0 r lo mid → Finger es s a
       → Storable (length setting.table) (map z es) → place_in_map setting (place setting) z es d u ≡ refused 9) → Starts s a d b rep s rep (Err Past32)
   refuses why = record {
     next = λ setting t u r lo mid hi two short.
@@ -199,8 +199,8 @@ start_state found d b rest base mark = record NONE {
 }
 
 -- s₁: those that overlap are linked downwards
-module _ (s s₁ : List ℕ) (a d b base mark rest e : ℕ) (found : Overlap) {o : Option Overlap} {t : Bool} (small : d < 4294967296) (P : Plain (command_in s b) d) (c : command_in s a ≡ 3) (M : Marks e (ends d (size_in s b)))
-    (T : Past e t) (fits : t ≡ false) (F : Parts s a d e o) (eo : o ≡ Some found) (len : length s₁ ≡ length s) (X : Turned s found.first found.above 0 s₁ rest) where
+module _ (s s₁ : List ℕ) (a d b base mark rest e : ℕ) (found : Overlap) {o : Option Overlap} {t : Bool} (small : d < 4294967296) (P : Plain (command_in s b) d) (c : command_in s a ≡ 3) (M : Denotes e (ends d (size_in s b)))
+    (T : Past e t) (fits : t ≡ false) (F : Parts s a d e o) (eo : o ≡ Some found) (len : length s₁ ≡ length s) (X : Reversed s found.first found.above 0 s₁ rest) where
   record Begun (k : ℕ) (y u : Usage) (r : ℕ → ℕ) (lo hi : ℕ) : Type 0 where
     z : Size
     low : Entries
@@ -215,7 +215,7 @@ module _ (s s₁ : List ℕ) (a d b base mark rest e : ℕ) (found : Overlap) {o
     counted : suc (nodes_in low + nodes_in mid + nodes_in high) ≡ nodes y
     comes : (setting : Setting) → finish setting (joins z low mid high d) u [] 0 ≡ after [] 1 (place_by_kind setting (place setting) y d u)
 
-  module _ {k : ℕ} {r : ℕ → ℕ} {lo mid hi : ℕ} {y u : Usage} (two : Two k s a b r lo mid hi y u) (A : Mapped k y s a r lo mid) (N : Marks e (ends d (size u)))
+  module _ {k : ℕ} {r : ℕ → ℕ} {lo mid hi : ℕ} {y u : Usage} (two : Two k s a b r lo mid hi y u) (A : Mapped k y s a r lo mid) (N : Denotes e (ends d (size u)))
       (G : Parted A.es r (suc (r a)) mid s a d (ends d (size u)) found false) where
     abbrev low : Entries
     low = onto G.low_down none
@@ -285,7 +285,7 @@ module _ (s s₁ : List ℕ) (a d b base mark rest e : ℕ) (found : Overlap) {o
   begun : {k : ℕ} {r : ℕ → ℕ} {lo mid hi : ℕ} {y u : Usage} → Two k s a b r lo mid hi y u → Begun k y u r lo hi
   begun {r} {mid} {u} two =
       let A = mapped two c in
-      let N : Marks e (ends d (size u)) = rw (right_size two) at M in
+      let N : Denotes e (ends d (size u)) = rw (right_size two) at M in
       begun_from two A N ((subst (Parts s a d e) eo F).parted (ends d (size u)) A.es r (suc (r a)) mid N A.row A.finger)
 
   pub begun_starts : {rep rep' : Report} → base ≡ rep.at → Emitted rep (0x30 ∷ []) rep' → Starts s a d b rep s₁ rep' (Ok (start_state found d b rest base mark))

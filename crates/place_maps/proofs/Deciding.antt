@@ -8,13 +8,13 @@ use Rattle.definitions.specs.If.{when◌then◌else◌}
 use Rattle.definitions.specs.Place.{ends}
 use Rattle.definitions.proofs.PlaceFuel.{merge_mem_is}
 use Rattle.records.specs.Records.{size_in}
-use Rattle.place_states.specs.Beyond.{act}
+use Rattle.place_states.specs.Continuation.{act}
 use Rattle.place_states.specs.declared.Pairing.TheVariants.{Place, Merge}
-use Rattle.place_search.specs.Numbers.{Marks}
-use Rattle.place_search.proofs.Marking.{marks_le, marks_lt}
+use Rattle.place_search.specs.Numbers.{Denotes}
+use Rattle.place_search.proofs.Denoting.{marks_le, marks_lt}
 use Rattle.place_maps.specs.Joining.{apart, into_entry, into_b, Joint}
 
-module _ {s : List ℕ} {l x o d y z : ℕ} (M : Marks y (ends o (size_in s l))) (N : Marks z (ends d (size_in s x))) where
+module _ {s : List ℕ} {l x o d y z : ℕ} (M : Denotes y (ends o (size_in s l))) (N : Denotes z (ends d (size_in s x))) where
   pub straddles_below : o < d → y < z → Joint s l x o d (apart o d)
   unfolding when◌then◌else◌ apart
   straddles_below lt less = record { comes = λ st u b w p eu eb. rw (ne_eqb o d (omega arith), lt-ltb o d lt, eu, eb, marks_lt (ends d (size_in s x)) (ends o (size_in s l)) N M less) }

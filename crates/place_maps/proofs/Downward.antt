@@ -6,8 +6,8 @@ use mathlib.Core.List.{List, []}
 use Rattle.definitions.specs.Usage.{Size, Usage, map, Entries, none, entry, ◌<+>◌}
 use Rattle.definitions.specs.Table.{Setting}
 use Rattle.definitions.specs.Place.{Result, refused, done, after, Joining, barred, straddled, joined, joined_at, join_entry, join_next, join, rebuilt, place, of_rule, insert}
-use Rattle.place_states.specs.Beyond.{joins, join_down, finish, resume}
-use Rattle.links.proofs.Entries.{app_none}
+use Rattle.place_states.specs.Continuation.{joins, join_down, finish, resume}
+use Rattle.record_links.proofs.Entries.{app_none}
 
 module _ (st : Setting) where
   pub join_down_lem : (es : Entries) (d : ℕ) (b : Usage) → join st (place st) es d b ≡ join_down st es (joined d b [] 0)

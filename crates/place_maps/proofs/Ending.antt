@@ -10,25 +10,25 @@ use Rattle.definitions.specs.Usage.{Size, Usage, map, Entries, none, entry, ◌<
 use Rattle.definitions.specs.Place.{done, after, insert, of_rule, straddle_conflict}
 use Rattle.definitions.specs.Sound.{Ascends}
 use Rattle.records.specs.Records.{Cell, cell, next_in, offset_in, with_next, with_offset, Set}
-use Rattle.links.specs.Standing.{Stands, Row}
-use Rattle.links.specs.Rows.{Down, Up, onto}
-use Rattle.links.specs.Frames.{Kept}
-use Rattle.links.proofs.Stands.{stands_root, root_same, stands_le, row_le, down_le, up_le, row_low, up_still, row_still}
-use Rattle.links.proofs.Frames.{kept_trans, kept_set, kept_widen, apart, set_trans}
-use Rattle.links.proofs.Changes.{stands_relink}
-use Rattle.links.proofs.Entries.{rev_app, few_entries, onto_nodes}
-use Rattle.links.proofs.Rows.{row_one, bottom, down_none}
+use Rattle.record_links.specs.Standing.{Stands, Row}
+use Rattle.record_links.specs.Rows.{Down, Up, onto}
+use Rattle.record_links.specs.Frames.{Kept}
+use Rattle.record_links.proofs.Stands.{stands_root, root_same, stands_le, row_le, down_le, up_le, row_low, up_still, row_still}
+use Rattle.record_links.proofs.Frames.{kept_trans, kept_set, kept_widen, apart, set_trans}
+use Rattle.record_links.proofs.Changes.{stands_relink}
+use Rattle.record_links.proofs.Entries.{rev_app, few_entries, onto_nodes}
+use Rattle.record_links.proofs.Rows.{row_one, bottom, down_none}
 use Rattle.report.specs.Emitted.{Emitted}
 use Rattle.report.proofs.Emitting.{emitted_over}
 use Rattle.report.specs.declared.Report.{Report}
-use Rattle.place_states.specs.Beyond.{joins, finish}
+use Rattle.place_states.specs.Continuation.{joins, finish}
 use Rattle.place_states.specs.States.{Joins, Waiting, Moves}
-use Rattle.place_states.specs.Ends.{finished_state, Unheaded}
+use Rattle.place_states.specs.Finished.{finished_state, Unheaded}
 use Rattle.place_states.specs.declared.State.{State}
 use Rattle.place_states.specs.declared.Rule.TheVariants.{Join as ByJoin}
 use Rattle.place_states.proofs.Ending.{next_finished, moves_finished, emitted_unheaded}
-use Rattle.place_maps.specs.Runs.{Ahead, Run, Turned}
-use Rattle.place_maps.specs.Joining.{without, Passed, Made, Closed, Entered, apart as straddling, Joint, Straddled}
+use Rattle.place_maps.specs.Runs.{Ahead, Run, Reversed}
+use Rattle.place_maps.specs.Joining.{without, Passed, Made, Concatenated, Inserted, apart as straddling, Joint, Straddled}
 use Rattle.place_maps.proofs.Downward.{finish_straddled, finish_none}
 use Rattle.place_maps.proofs.Inserting.{insert_onto}
 use Rattle.place_maps.proofs.Stepping.{by_joins, waits, taken, finish_joint, outer_less}
@@ -64,7 +64,7 @@ fallen s a st left W e ne el =
 
 -- s₁: they are linked upwards; s₂: the map has them
 pub straddled : {s : List ℕ} {rep : Report} {a : ℕ} {st : State} {o : ℕ} {s₁ s₂ : List ℕ} {rep' : Report} {st' : State} {left head : ℕ} → left ≡ next_in s st.rest → length s₁ ≡ length s
-    → Turned s left 0 st.q s₁ head → Closed s₁ a st.low head s₂ → Emitted (record rep { at = st.base }) (straddle_conflict o st.offset) rep' → st' ≡ finished_state a st.pairings
+    → Reversed s left 0 st.q s₁ head → Concatenated s₁ a st.low head s₂ → Emitted (record rep { at = st.base }) (straddle_conflict o st.offset) rep' → st' ≡ finished_state a st.pairings
     → Straddled s rep a st o s₂ rep' st'
 straddled {s} {rep} {a} {st} {o} {s₁} {s₂} {rep'} {st'} {left} {head} el len H C E f = record {
   state = f;
@@ -110,7 +110,7 @@ straddles s rep a st {s'} {rep'} e ne Jt T = moves_finished s rep a st s' rep' _
 
 -- s₁, s₂: b has its offset, and is linked to those above; s₃: the map has it
 module _ (s s₁ s₂ s₃ : List ℕ) (rep rep' : Report) (a : ℕ) (st : State) (above : ℕ) (e : st.rule ≡ ByJoin) (z : st.rest ≡ 0) (l₁ : length s₁ ≡ length s) (l₂ : length s₂ ≡ length s₁) (P : Passed s st.q st.offset above)
-    (C₁ : Set s s₁ st.x (with_offset st.offset (cell s st.x))) (C₂ : Set s₁ s₂ st.x (with_next above (cell s₁ st.x))) (N : Entered s₂ a st.low st.x st.offset s₃)
+    (C₁ : Set s s₁ st.x (with_offset st.offset (cell s st.x))) (C₂ : Set s₁ s₂ st.x (with_next above (cell s₁ st.x))) (N : Inserted s₂ a st.low st.x st.offset s₃)
     (U : Unheaded st.base rep rep') where
   len : length s₂ ≡ length s
   len = l₂ ∙ l₁

@@ -5,7 +5,7 @@ use native.Mathlib.Omega.{arith}
 use Rattle.definitions.specs.Usage.{Usage, Entries, none, entry, ◌<+>◌}
 use Rattle.definitions.specs.Sound.{Ascends}
 use Rattle.definitions.proofs.Storable.{ascends_back, ascends_behind}
-use Rattle.place_states.specs.Beyond.{UpTo, FromOn}
+use Rattle.place_states.specs.Continuation.{UpTo, FromOn}
 
 -- every offset is below d
 abbrev pub Under : ℕ → Entries → Type 0

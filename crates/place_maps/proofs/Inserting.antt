@@ -11,9 +11,9 @@ use Rattle.definitions.specs.Usage.{Usage, Entries, none, entry, ◌<+>◌}
 use Rattle.definitions.specs.Place.{insert}
 use Rattle.definitions.specs.Sound.{Ascends}
 use Rattle.definitions.proofs.Storable.{ascends_back}
-use Rattle.links.specs.Rows.{onto}
-use Rattle.links.proofs.Entries.{append_assoc, rev_app}
-use Rattle.place_states.specs.Beyond.{UpTo, FromOn}
+use Rattle.record_links.specs.Rows.{onto}
+use Rattle.record_links.proofs.Entries.{append_assoc, rev_app}
+use Rattle.place_states.specs.Continuation.{UpTo, FromOn}
 use Rattle.place_maps.specs.Joining.{without}
 use Rattle.place_maps.proofs.Entries.{Under, under_of, under_one_more, upto_last}
 

@@ -3,11 +3,11 @@ pub mod Deciding
 pub mod Downward
 pub mod Inserting
 pub mod Overlaps
-pub mod Turning
+pub mod Reversing
 pub mod Lines
 pub mod Linking
 pub mod Stepping
 pub mod Receiving
 pub mod Ending
-pub mod Turns
+pub mod NextJoins
 pub mod Beginning

@@ -8,14 +8,14 @@ use lib.ListN.{length}
 use native.Mathlib.Omega.{arith}
 use Rattle.definitions.specs.Usage.{Usage, Entries, none, entry, count, ◌<+>◌}
 use Rattle.records.specs.Records.{next_in, offset_in}
-use Rattle.links.specs.Standing.{Stands}
-use Rattle.links.specs.Rows.{Down, chain}
-use Rattle.links.specs.Frames.{Kept}
-use Rattle.links.proofs.Stands.{row_le, down_le, stands_wide, row_low, row_still, down_still}
-use Rattle.links.proofs.Frames.{kept_widen, apart}
-use Rattle.links.proofs.Rows.{head, top, end, bottom, first_past, row_in, down_in, row_one, down_one, row_app}
-use Rattle.links.proofs.Chains.{chain_many, down_chain}
-use Rattle.links.proofs.Entries.{append_count}
+use Rattle.record_links.specs.Standing.{Stands}
+use Rattle.record_links.specs.Rows.{Down, chain}
+use Rattle.record_links.specs.Frames.{Kept}
+use Rattle.record_links.proofs.Stands.{row_le, down_le, stands_wide, row_low, row_still, down_still}
+use Rattle.record_links.proofs.Frames.{kept_widen, apart}
+use Rattle.record_links.proofs.Rows.{head, top, end, bottom, first_past, row_in, down_in, row_one, down_one, row_app}
+use Rattle.record_links.proofs.Chains.{chain_many, down_chain}
+use Rattle.record_links.proofs.Entries.{append_count}
 use Rattle.place_maps.specs.Runs.{Line, lower}
 
 pub line_le : (up : Bool) (es : Entries) (s : List ℕ) (q e : ℕ) (r : ℕ → ℕ) (n m : ℕ) → Line up es s q e r n m → lower up n m ≤ lower up m n

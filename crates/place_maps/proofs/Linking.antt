@@ -8,15 +8,15 @@ use lib.ListN.{length}
 use native.Mathlib.Omega.{arith}
 use Rattle.definitions.specs.Usage.{Size, Usage, map, Entries, none, entry}
 use Rattle.records.specs.Records.{Cell, cell, next_in, child_in, offset_in, with_next, with_child, with_argument, Set}
-use Rattle.links.specs.Standing.{Root, Stands, Row}
-use Rattle.links.specs.Rows.{Up, link, onto}
-use Rattle.links.specs.Frames.{Kept, Still}
-use Rattle.links.proofs.Stands.{stands_root, root_same, stands_le, row_le, up_le, link_suc, link_zero, link_still, up_still, row_still, row_low}
-use Rattle.links.proofs.Frames.{kept_trans, kept_set, kept_widen, apart}
-use Rattle.links.proofs.Changes.{stands_relink, rehome}
-use Rattle.links.proofs.Rows.{up_one, end_0, head}
-use Rattle.links.proofs.Fingers.{map_finger}
-use Rattle.place_maps.specs.Joining.{without, Passed, Hung, Linked, Made, Closed, Entered}
+use Rattle.record_links.specs.Standing.{Root, Stands, Row}
+use Rattle.record_links.specs.Rows.{Up, link, onto}
+use Rattle.record_links.specs.Frames.{Kept, Still}
+use Rattle.record_links.proofs.Stands.{stands_root, root_same, stands_le, row_le, up_le, link_suc, link_zero, link_still, up_still, row_still, row_low}
+use Rattle.record_links.proofs.Frames.{kept_trans, kept_set, kept_widen, apart}
+use Rattle.record_links.proofs.Changes.{stands_relink, rehome}
+use Rattle.record_links.proofs.Rows.{up_one, end_0, head}
+use Rattle.record_links.proofs.Fingers.{map_finger}
+use Rattle.place_maps.specs.Joining.{without, Passed, Hung, SuccessorSet, Made, Concatenated, Inserted}
 use Rattle.place_maps.proofs.Inserting.{without_same, without_other}
 
 -- What follows
@@ -51,16 +51,16 @@ hung_behind (entry o u es) s s' a l q r m len ne C h =
       kept = kept_widen s s' r r h.0 m (r a) m (omega arith) (omega arith) K;
     }
 
-pub linked_first : (s s' : List ℕ) (a l q : ℕ) → length s' ≡ length s → l ≡ 0 → Set s s' a (with_child q (cell s a)) → Linked s a l q s'
+pub linked_first : (s s' : List ℕ) (a l q : ℕ) → length s' ≡ length s → l ≡ 0 → Set s s' a (with_child q (cell s a)) → SuccessorSet s a l q s'
 linked_first s s' a l q len z C = record { hung = λ es r m h. hung_first es s s' a l q r m len z C h }
 
-pub linked_behind : (s s' : List ℕ) (a l q : ℕ) → length s' ≡ length s → (l ≡ 0 → ⊥) → Set s s' l (with_next q (cell s l)) → Linked s a l q s'
+pub linked_behind : (s s' : List ℕ) (a l q : ℕ) → length s' ≡ length s → (l ≡ 0 → ⊥) → Set s s' l (with_next q (cell s l)) → SuccessorSet s a l q s'
 linked_behind s s' a l q len ne C = record { hung = λ es r m h. hung_behind es s s' a l q r m len ne C h }
 
 -- The map
 
-pub closes : (s s₁ s₂ : List ℕ) (a l q : ℕ) → length s₁ ≡ length s → length s₂ ≡ length s₁ → Linked s a l q s₁ → Set s₁ s₂ a (with_argument l (cell s₁ a)) → Closed s a l q s₂
-closes s s₁ s₂ a l q l₁ l₂ L C = record {
+pub concatenates : (s s₁ s₂ : List ℕ) (a l q : ℕ) → length s₁ ≡ length s → length s₂ ≡ length s₁ → SuccessorSet s a l q s₁ → Set s₁ s₂ a (with_argument l (cell s₁ a)) → Concatenated s a l q s₂
+concatenates s s₁ s₂ a l q l₁ l₂ L C = record {
   made = λ z es fs r lo m hi R U W.
       let H : Hung es s a l q r m s₁ = L.hung es r m U in
       let am = up_le es s a l r (suc (r a)) m U in
@@ -85,23 +85,23 @@ unfolding Up without
 without_last o none s a l r lo hi ne h = refl
 without_last o (entry o' u es) s a l r lo hi ne h = without_other o o' u es (λ e. ne (h.2 ∙ e))
 
-behind : (s s' : List ℕ) (a l b o : ℕ) → ((es : Entries) (r : ℕ → ℕ) (lo hi : ℕ) → Up es s a l r lo hi → without o es ≡ es) → Closed s a l b s' → Entered s a l b o s'
+behind : (s s' : List ℕ) (a l b o : ℕ) → ((es : Entries) (r : ℕ → ℕ) (lo hi : ℕ) → Up es s a l r lo hi → without o es ≡ es) → Concatenated s a l b s' → Inserted s a l b o s'
 behind s s' a l b o same C = record {
   made = λ z es fs u r lo m hi R U W.
       subst (λ (x : Entries). Made (map z (onto x (entry o u fs))) s a r lo hi s') (sym (same es r (suc (r a)) m U)) (C.made z es (entry o u fs) r lo m hi R U W);
 }
 
-pub enters_first : (s s' : List ℕ) (a l b o : ℕ) → l ≡ 0 → Closed s a l b s' → Entered s a l b o s'
-enters_first s s' a l b o z C = behind s s' a l b o (λ es r lo hi U. without_none o es s a l r lo hi z U) C
+pub inserts_first : (s s' : List ℕ) (a l b o : ℕ) → l ≡ 0 → Concatenated s a l b s' → Inserted s a l b o s'
+inserts_first s s' a l b o z C = behind s s' a l b o (λ es r lo hi U. without_none o es s a l r lo hi z U) C
 
-pub enters_behind : (s s' : List ℕ) (a l b o : ℕ) {o' : ℕ} → o' ≡ offset_in s l → (o' ≡ o → ⊥) → Closed s a l b s' → Entered s a l b o s'
-enters_behind s s' a l b o eo ne C = behind s s' a l b o (λ es r lo hi U. without_last o es s a l r lo hi (λ e. ne (eo ∙ e)) U) C
+pub inserts_behind : (s s' : List ℕ) (a l b o : ℕ) {o' : ℕ} → o' ≡ offset_in s l → (o' ≡ o → ⊥) → Concatenated s a l b s' → Inserted s a l b o s'
+inserts_behind s s' a l b o eo ne C = behind s s' a l b o (λ es r lo hi U. without_last o es s a l r lo hi (λ e. ne (eo ∙ e)) U) C
 
 -- b's record is copied over l's
-pub enters_over : (s s₁ s₂ : List ℕ) (a l b o : ℕ) {o' : ℕ} → (l ≡ 0 → ⊥) → o' ≡ offset_in s l → o' ≡ o → length s₁ ≡ length s → length s₂ ≡ length s₁
-    → Set s s₁ l (cell s b) → Set s₁ s₂ a (with_argument l (cell s₁ a)) → Entered s a l b o s₂
+pub inserts_over : (s s₁ s₂ : List ℕ) (a l b o : ℕ) {o' : ℕ} → (l ≡ 0 → ⊥) → o' ≡ offset_in s l → o' ≡ o → length s₁ ≡ length s → length s₂ ≡ length s₁
+    → Set s s₁ l (cell s b) → Set s₁ s₂ a (with_argument l (cell s₁ a)) → Inserted s a l b o s₂
 unfolding Up Stands onto
-enters_over s s₁ s₂ a l b o ne eo e l₁ l₂ C C₂ = record { made = λ z es fs u r lo m hi R U W. over z es fs u r lo m hi R U W }
+inserts_over s s₁ s₂ a l b o ne eo e l₁ l₂ C C₂ = record { made = λ z es fs u r lo m hi R U W. over z es fs u r lo m hi R U W }
   where
     over : (z : Size) (es fs : Entries) (u : Usage) (r : ℕ → ℕ) (lo m hi : ℕ) → Root s a r lo hi 3 z → Up es s a l r (suc (r a)) m → Row (entry o u fs) s b 0 r m hi
         → Made (map z (onto (without o es) (entry o u fs))) s a r lo hi s₂

@@ -13,9 +13,9 @@ use Rattle.definitions.specs.Table.{Setting}
 use Rattle.definitions.specs.Place.{Placing, ends, past32, ◌≤ˢ◌, past, searching, stopped, overlap_next, overlapping, join, rebuilt, join_found}
 use Rattle.definitions.specs.Sound.{Ascends}
 use Rattle.definitions.proofs.Storable.{ascends_back}
-use Rattle.links.specs.Rows.{onto}
-use Rattle.links.proofs.Entries.{append_assoc}
-use Rattle.place_search.specs.Parts.{Crossing, any_past, Ended, nothing, by, Starts, Parted}
+use Rattle.record_links.specs.Rows.{onto}
+use Rattle.record_links.proofs.Entries.{append_assoc}
+use Rattle.place_search.specs.Parts.{Crossing, any_past, LastEndsBy, nothing, by, Starts, Parted}
 use Rattle.place_search.specs.declared.Overlap.{Overlap}
 
 -- each starts at e or later
@@ -83,7 +83,7 @@ module _ (d : ℕ) (e : Size) where
   stop none o u es mid high small start end q = rw (q, start, by_fits d (ends o (size u)) small end, end)
   stop (entry o' u' low) o u es mid high small start end q = ap (overlap_next d e o' u') (stop low o u es mid high small start end q)
 
-  module _ (low mid high : Entries) (small : d ≤ max32) (ended : Ended d e low) (crossing : Crossing d e mid) (starts : Starting e high) where
+  module _ (low mid high : Entries) (small : d ≤ max32) (ended : LastEndsBy d e low) (crossing : Crossing d e mid) (starts : Starting e high) where
     pub found_past : any_past mid ≡ true → overlapping d e (low <+> mid <+> high) ≡ past
     found_past a = stay_past low (mid <+> high) (collect_past mid high crossing (pass_over high starts) a)
 
@@ -94,7 +94,7 @@ module _ (d : ℕ) (e : Size) where
         q : overlapping d e (mid <+> high) ≡ searching mid high
         q = collect mid high crossing (pass_over high starts) a
 
-        go : {es : Entries} → Ended d e es → join_found st place z d b (overlapping d e (es <+> mid <+> high)) ≡ rebuilt z es high (join st place mid d b)
+        go : {es : Entries} → LastEndsBy d e es → join_found st place z d b (overlapping d e (es <+> mid <+> high)) ≡ rebuilt z es high (join st place mid d b)
         go nothing = ap (join_found st place z d b) q
         go (by es o u start end) =
             ap (λ x. join_found st place z d b (overlapping d e x)) (append_assoc es (entry o u none) (mid <+> high))

@@ -10,17 +10,17 @@ use Rattle.definitions.specs.Usage.{Size, Usage, Entries, none, nodes}
 use Rattle.definitions.specs.Table.{Setting}
 use Rattle.definitions.specs.Place.{place}
 use Rattle.records.specs.Records.{next_in, offset_in}
-use Rattle.links.specs.Rows.{onto}
-use Rattle.links.specs.Ranks.{rotated}
-use Rattle.links.specs.Frames.{Kept}
-use Rattle.links.proofs.Stands.{stands_le, row_le, down_le, up_le}
-use Rattle.links.proofs.Frames.{kept_trans, kept_widen}
-use Rattle.links.proofs.Ranks.{rot_kept, rot_left, rot_right}
+use Rattle.record_links.specs.Rows.{onto}
+use Rattle.record_links.specs.Ranks.{rotated}
+use Rattle.record_links.specs.Frames.{Kept}
+use Rattle.record_links.proofs.Stands.{stands_le, row_le, down_le, up_le}
+use Rattle.record_links.proofs.Frames.{kept_trans, kept_widen}
+use Rattle.record_links.proofs.Ranks.{rot_kept, rot_left, rot_right}
 use Rattle.report.proofs.Emitting.{emitted_after}
 use Rattle.report.specs.declared.Report.{Report}
 use Rattle.place_states.specs.Calls.{Ground}
-use Rattle.place_states.specs.Beyond.{joins, finish, outer, act}
-use Rattle.place_states.specs.States.{Joins, Outside, Standing, Pending, Waiting, Moves}
+use Rattle.place_states.specs.Continuation.{joins, finish, outer, act}
+use Rattle.place_states.specs.States.{Joins, Outside, SoFar, Pending, Waiting, Moves}
 use Rattle.place_states.specs.declared.State.{State}
 use Rattle.place_states.specs.declared.Rule.TheVariants.{Join as ByJoin}
 use Rattle.place_states.specs.declared.Pairing.{Pairing}
@@ -84,7 +84,7 @@ module _ (s : List ℕ) (rep : Report) (a : ℕ) (st : State) (W : Waiting s a s
 
   module _ (how : Pairing) (Jt : Joint s st.rest st.x (offset_in s st.rest) st.offset (into_b how (offset_in s st.rest) st.offset)) {rep' : Report} {st' : State} (P : Paired s rep (b_pair how) (offset_in s st.rest) rep' st') where
     b_pending : (setting : Setting) (z : Size) (low mid high : Entries) (b : Usage) (w : List ℕ) (p : ℕ) (g : Ground) (n : ℕ) → nodes b + outer (joins z low mid high st.offset) ≤ n
-        → (S : Standing (length setting.table) (joins z low mid high st.offset) b w p g s rep a st) → Joins (length setting.table) z low mid high st.offset s a st S.rank g.lo S.c S.e g.hi
+        → (S : SoFar (length setting.table) (joins z low mid high st.offset) b w p g s rep a st) → Joins (length setting.table) z low mid high st.offset s a st S.rank g.lo S.c S.e g.hi
         → Pending how setting (finish setting (joins z low mid high st.offset) b w p) g n s rep' a (paired (b_pair how))
     unfolding Outside into_b
     b_pending setting z low mid high b w p g n le S J =

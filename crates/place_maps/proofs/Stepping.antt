@@ -14,15 +14,15 @@ use Rattle.definitions.specs.Sound.{Storable, Ascends}
 use Rattle.definitions.proofs.Nodes.{append_nodes}
 use Rattle.definitions.proofs.Storable.{ascends_back}
 use Rattle.records.specs.Records.{next_in, size_in, offset_in}
-use Rattle.links.specs.Standing.{Stands}
-use Rattle.links.specs.Rows.{Down, onto, chain}
-use Rattle.links.proofs.Chains.{down_falls}
-use Rattle.links.proofs.Entries.{append_assoc, rev_app, few_entries, onto_nodes}
-use Rattle.links.proofs.Stands.{stands_root, root_same, down_le, up_le}
-use Rattle.links.proofs.Rows.{Top, top, row_in, down_in, up_in}
+use Rattle.record_links.specs.Standing.{Stands}
+use Rattle.record_links.specs.Rows.{Down, onto, chain}
+use Rattle.record_links.proofs.Chains.{down_falls}
+use Rattle.record_links.proofs.Entries.{append_assoc, rev_app, few_entries, onto_nodes}
+use Rattle.record_links.proofs.Stands.{stands_root, root_same, down_le, up_le}
+use Rattle.record_links.proofs.Rows.{Top, top, row_in, down_in, up_in}
 use Rattle.report.specs.declared.Report.{Report}
-use Rattle.place_states.specs.Beyond.{Beyond, entries, element, joins, finish, outer, UpTo, FromOn}
-use Rattle.place_states.specs.States.{Joins, Outside, Standing, Short, Next, Waiting}
+use Rattle.place_states.specs.Continuation.{Continuation, entries, element, joins, finish, outer, UpTo, FromOn}
+use Rattle.place_states.specs.States.{Joins, Outside, SoFar, Short, Next, Waiting}
 use Rattle.place_states.specs.declared.State.{State}
 use Rattle.place_states.specs.declared.Rule.{Rule}
 use Rattle.place_states.specs.declared.Rule.TheVariants.{Entries as ByEntries, Element as ByElement, Join as ByJoin}
@@ -42,15 +42,15 @@ module _ (s : List ℕ) (rep : Report) (a : ℕ) (st : State) (s' : List ℕ) (r
   abbrev StepsAt : Setting → Size → Entries → Entries → Entries → Usage → List ℕ → ℕ → Ground → ℕ → ℕ → Type 0
   StepsAt setting z low mid high b w p g n d =
       nodes b + outer (joins z low mid high d) ≤ n
-      → (S : Standing (length setting.table) (joins z low mid high d) b w p g s rep a st)
+      → (S : SoFar (length setting.table) (joins z low mid high d) b w p g s rep a st)
       → Joins (length setting.table) z low mid high d s a st S.rank g.lo S.c S.e g.hi
       → Short g.report.at (finish setting (joins z low mid high d) b w p)
       → Next setting (finish setting (joins z low mid high d) b w p) g n s' rep' a st'
 
   pub by_joins : st.rule ≡ ByJoin
       → ((setting : Setting) (z : Size) (low mid high : Entries) (b : Usage) (w : List ℕ) (p : ℕ) (g : Ground) (n : ℕ) → StepsAt setting z low mid high b w p g n st.offset)
-      → (setting : Setting) (y : Beyond) (u : Usage) (w : List ℕ) (p : ℕ) (g : Ground) (n : ℕ) → nodes u + outer y ≤ n
-      → Standing (length setting.table) y u w p g s rep a st → Short g.report.at (finish setting y u w p)
+      → (setting : Setting) (y : Continuation) (u : Usage) (w : List ℕ) (p : ℕ) (g : Ground) (n : ℕ) → nodes u + outer y ≤ n
+      → SoFar (length setting.table) y u w p g s rep a st → Short g.report.at (finish setting y u w p)
       → Next setting (finish setting y u w p) g n s' rep' a st'
   unfolding Outside
   by_joins e f setting (entries es) u w p g n le S h = other e S.outside.rule
@@ -80,7 +80,7 @@ pub waits : (s : List ℕ) (a : ℕ) (st : State) → Waiting s a st → st.rule
 unfolding Outside
 waits s a st W e = go W.y W.outside W.few
   where
-    go : (y : Beyond) → Outside W.k y s a st W.rank W.lo W.c W.e W.hi → nodes W.u + outer y ≤ node_limit → Waits s a st
+    go : (y : Continuation) → Outside W.k y s a st W.rank W.lo W.c W.e W.hi → nodes W.u + outer y ≤ node_limit → Waits s a st
     go (entries es) h few = other e h.rule
     go (element z m) h few = another e h.rule
     go (joins z low mid high d) h few = record {

@@ -7,13 +7,13 @@ use Rattle.definitions.specs.Stream.{bytes}
 use Rattle.definitions.specs.Table.{Setting}
 use Rattle.definitions.specs.Place.{straddle_conflict, Joining, straddled, joined_at, join_entry, place}
 use Rattle.records.specs.Records.{command_in, next_in, size_in}
-use Rattle.links.specs.Standing.{Root, Stands, Row}
-use Rattle.links.specs.Rows.{Down, Up, link, onto}
-use Rattle.links.specs.Frames.{Kept}
+use Rattle.record_links.specs.Standing.{Root, Stands, Row}
+use Rattle.record_links.specs.Rows.{Down, Up, link, onto}
+use Rattle.record_links.specs.Frames.{Kept}
 use Rattle.report.specs.Emitted.{Emitted}
 use Rattle.report.specs.declared.Report.{Report}
-use Rattle.place_states.specs.Beyond.{act}
-use Rattle.place_states.specs.Ends.{finished_state}
+use Rattle.place_states.specs.Continuation.{act}
+use Rattle.place_states.specs.Finished.{finished_state}
 use Rattle.place_states.specs.declared.State.{State}
 use Rattle.place_states.specs.declared.Pairing.{Pairing}
 
@@ -44,7 +44,7 @@ pub record Hung (es : Entries) (s : List ℕ) (a l q : ℕ) (r : ℕ → ℕ) (m
   pub size : size_in s' a ≡ size_in s a
   pub kept : Kept s r s' r (r a) m
 
-pub record Linked (s : List ℕ) (a l q : ℕ) (s' : List ℕ) : Type 0 where
+pub record SuccessorSet (s : List ℕ) (a l q : ℕ) (s' : List ℕ) : Type 0 where
   pub hung : (es : Entries) (r : ℕ → ℕ) (m : ℕ) → Up es s a l r (suc (r a)) m → Hung es s a l q r m s'
 
 -- record a is the usage u, and outside of the ranks from lo to hi nothing has changed
@@ -53,12 +53,12 @@ pub record Made (u : Usage) (s : List ℕ) (a : ℕ) (r : ℕ → ℕ) (lo hi : 
   pub kept : Kept s r s' r lo hi
 
 -- the map at record a has its entries up to l, and those linked from q on
-pub record Closed (s : List ℕ) (a l q : ℕ) (s' : List ℕ) : Type 0 where
+pub record Concatenated (s : List ℕ) (a l q : ℕ) (s' : List ℕ) : Type 0 where
   pub made : (z : Size) (es fs : Entries) (r : ℕ → ℕ) (lo m hi : ℕ) → Root s a r lo hi 3 z → Up es s a l r (suc (r a)) m → Row fs s q 0 r m hi
       → Made (map z (onto es fs)) s a r lo hi s'
 
 -- the same, where l gives way to b if both stand at o
-pub record Entered (s : List ℕ) (a l b o : ℕ) (s' : List ℕ) : Type 0 where
+pub record Inserted (s : List ℕ) (a l b o : ℕ) (s' : List ℕ) : Type 0 where
   pub made : (z : Size) (es fs : Entries) (u : Usage) (r : ℕ → ℕ) (lo m hi : ℕ) → Root s a r lo hi 3 z → Up es s a l r (suc (r a)) m → Row (entry o u fs) s b 0 r m hi
       → Made (map z (onto (without o es) (entry o u fs))) s a r lo hi s'
 

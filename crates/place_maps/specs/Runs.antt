@@ -3,9 +3,9 @@
 use Rattle.std.specs.Prelude.{ℕ, ◌+◌, ◌<◌, ◌≤◌, ◌≡◌, Bool, true, false, not, List, length}
 use Rattle.definitions.specs.Limits.{node_limit}
 use Rattle.definitions.specs.Usage.{Entries, count}
-use Rattle.links.specs.Standing.{Row}
-use Rattle.links.specs.Rows.{Down, onto}
-use Rattle.links.specs.Frames.{Kept}
+use Rattle.record_links.specs.Standing.{Row}
+use Rattle.record_links.specs.Rows.{Down, onto}
+use Rattle.record_links.specs.Frames.{Kept}
 
 -- entries that are linked from q to e: upwards, in the ranks from n on up to m; or downwards, in those from m up to n, and e is 0
 abbrev pub Line : Bool → Entries → List ℕ → ℕ → ℕ → (ℕ → ℕ) → ℕ → ℕ → Type 0
@@ -44,6 +44,6 @@ pub record Back (up : Bool) (es gs : Entries) (r : ℕ → ℕ) (y n m : ℕ) (s
   pub kept : Kept s r s' r (lower up n m) (lower up m n)
 
 -- whatever entries are linked there
-pub record Turned (s : List ℕ) (q e p : ℕ) (s' : List ℕ) (x : ℕ) : Type 0 where
+pub record Reversed (s : List ℕ) (q e p : ℕ) (s' : List ℕ) (x : ℕ) : Type 0 where
   pub small : x < 65536
   pub back : (up : Bool) (es fs gs : Entries) (r : ℕ → ℕ) (y n m z : ℕ) → Ahead up es fs gs r y n m z s q e p → Back up es gs r y n m s s' x

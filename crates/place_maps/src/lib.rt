@@ -7,8 +7,8 @@ ghost use Rattle.records.specs.Records.{command_in};
 ghost use Rattle.place_states.specs.Calls.{Beside};
 ghost use Rattle.place_states.specs.States.{Waiting, Moves};
 ghost use Rattle.place_states.specs.Starts.{Plain, Starts};
-ghost use Rattle.place_maps.specs.Runs.{Run, Turned};
-ghost use Rattle.place_maps.specs.Joining.{Within, Passed, Linked, Closed, Entered, Paired, Straddled};
+ghost use Rattle.place_maps.specs.Runs.{Run, Reversed};
+ghost use Rattle.place_maps.specs.Joining.{Within, Passed, SuccessorSet, Concatenated, Inserted, Paired, Straddled};
 
 use place_search::{end_at, overlapping, past32};
 use place_states::{Pairing, Rule, SizeRefusal, State, Todo, drop_heading};
@@ -18,9 +18,9 @@ use std::cmp::Ordering;
 
 // The entries from record q to record `end` are linked the other way round, upwards or downwards, and the last of them to `behind`; the
 // first of them, or `behind`. A walk along links in the lent bytes, which it changes as it goes.
-fn turn(s: &mut [u8], q: usize, end: usize, behind: usize) -> usize
+fn reverse(s: &mut [u8], q: usize, end: usize, behind: usize) -> usize
     requires { Run s.old q end behind }
-    ensures { Turned s.old q end behind s.new result }
+    ensures { Reversed s.old q end behind s.new result }
 {
     let mut p = q;
     let mut last = behind;
@@ -34,9 +34,9 @@ fn turn(s: &mut [u8], q: usize, end: usize, behind: usize) -> usize
 }
 
 // q becomes what follows the entry `low` of a, or a's first.
-fn link(s: &mut [u8], a: usize, low: usize, q: usize)
+fn set_successor(s: &mut [u8], a: usize, low: usize, q: usize)
     requires { (a * 32 + 32 ≤ length s.old) × (low * 32 + 32 ≤ length s.old) × (q < 65536) }
-    ensures { Linked s.old a low q s.new }
+    ensures { SuccessorSet s.old a low q s.new }
 {
     if low == 0 {
         put_child(s, a, q);
@@ -46,11 +46,11 @@ fn link(s: &mut [u8], a: usize, low: usize, q: usize)
 }
 
 // The same, and the finger of a is `low`: the number of a record, which fits the 32 bits to which `as` cuts it, here and below.
-fn close(s: &mut [u8], a: usize, low: usize, q: usize)
+fn concat(s: &mut [u8], a: usize, low: usize, q: usize)
     requires { (a * 32 + 32 ≤ length s.old) × (low * 32 + 32 ≤ length s.old) × (q < 65536) × (length s.old ≤ 2097152) }
-    ensures { Closed s.old a low q s.new }
+    ensures { Concatenated s.old a low q s.new }
 {
-    link(s, a, low, q);
+    set_successor(s, a, low, q);
     put_argument(s, a, low as u32);
 }
 
@@ -66,12 +66,12 @@ fn passed(s: &[u8], q: usize, o: u32) -> usize
 }
 
 // b, at o, becomes an entry of a, in place of `low` if that stands at o, and else behind it. In place of `low` it is that record.
-fn enter(s: &mut [u8], a: usize, low: usize, b: usize, o: u32)
+fn insert(s: &mut [u8], a: usize, low: usize, b: usize, o: u32)
     requires { (a * 32 + 32 ≤ length s.old) × (low * 32 + 32 ≤ length s.old) × (b * 32 + 32 ≤ length s.old) × (length s.old ≤ 2097152) }
-    ensures { Entered s.old a low b o s.new }
+    ensures { Inserted s.old a low b o s.new }
 {
     if low == 0 || offset(s, low) != o {
-        close(s, a, low, b);
+        concat(s, a, low, b);
         return;
     }
     copy_record(s, low, b);
@@ -91,7 +91,7 @@ fn end_join(s: &mut [u8], a: usize, st: State, report: &mut Report<'_>) -> State
     let above = passed(s, st.q, o);
     put_offset(s, b, o);
     put_next(s, b, above);
-    enter(s, a, st.low, b, o);
+    insert(s, a, st.low, b, o);
     drop_heading(report, st.base);
     State::finished(a, st.pairings)
 }
@@ -105,8 +105,8 @@ fn straddle(s: &mut [u8], a: usize, st: State, o: u32, report: &mut Report<'_>) 
     ensures { Straddled s.old report.old a st o s.new report.new result }
 {
     let left = next(s, st.rest);
-    let head = turn(s, left, 0, st.q);
-    close(s, a, st.low, head);
+    let head = reverse(s, left, 0, st.q);
+    concat(s, a, st.low, head);
     report.at = st.base;
     report.straddle(o, st.offset);
     State::finished(a, st.pairings)
@@ -193,7 +193,7 @@ pub fn begin_join(
         return Err(SizeRefusal::Past32);
     }
     let found = overlapping(s, a, d, e).ok_or(SizeRefusal::Past32)?;
-    let rest = turn(s, found.first, found.above, 0);
+    let rest = reverse(s, found.first, found.above, 0);
     let base = report.at;
     report.byte(0x30);
     Ok(State {

@@ -11,15 +11,15 @@ use Rattle.qptr.specs.Values.{size_of, command_of, kind_of}
 use Rattle.qptr.specs.declared.Kind.{Kind}
 use Rattle.qptr.specs.declared.MaxSize.{MaxSize}
 use Rattle.records.specs.Records.{command_in, size_in}
-use Rattle.links.specs.Rows.{nodes_at}
-use Rattle.links.proofs.ByCommand.{IsUnused, is_unused_lem}
-use Rattle.links.proofs.Shapes.{kind_says}
+use Rattle.record_links.specs.Rows.{nodes_at}
+use Rattle.record_links.proofs.ByCommand.{IsUnused, is_unused_lem}
+use Rattle.record_links.proofs.Shapes.{kind_says}
 use Rattle.report.specs.declared.Report.{Report}
 use Rattle.report.proofs.Emitting.{emitted_nothing, kept_nothing}
-use Rattle.place_states.specs.Calls.{Two, Ready, Near, ground}
+use Rattle.place_states.specs.Calls.{Two, Ready, NoWrap, ground}
 use Rattle.place_states.specs.States.{Next, Short}
 use Rattle.place_states.specs.Starts.{Begins, Began}
-use Rattle.place_states.specs.Ends.{finished_state}
+use Rattle.place_states.specs.Finished.{finished_state}
 use Rattle.place_states.specs.Refusals.{number_of}
 use Rattle.place_states.specs.declared.SizeRefusal.{SizeRefusal}
 use Rattle.place_states.specs.declared.SizeRefusal.TheVariants.{Outgrown, Past32}
@@ -64,7 +64,7 @@ module _ (table : Table) (s : List ℕ) (rep : Report) (a d b : ℕ) (za zb : Ma
       refuses Outgrown x = refl
       refuses Past32 x = refl
 
-  pub began_fitting : (s' : List ℕ) (rep' : Report) (r : Returned State SizeRefusal) → Near rep.at (nodes_at s a + nodes_at s b) → 0 ≡ size_refusal (size_of za) d (size_of zb)
+  pub began_fitting : (s' : List ℕ) (rep' : Report) (r : Returned State SizeRefusal) → NoWrap rep.at (nodes_at s a + nodes_at s b) → 0 ≡ size_refusal (size_of za) d (size_of zb)
       → Begins table s a d b rep s' rep' r → Began table s a d b rep s' rep' r
   began_fitting s' rep' r near fits B = record {
     next = λ setting known t u rank lo mid hi two.

@@ -1,3 +1,3 @@
-pub mod Settling
+pub mod TakingResults
 pub mod Sizes
 pub mod Begun

@@ -5,11 +5,11 @@ ghost use Rattle.std.specs.Prelude.{◌≡◌, ◌+◌};
 ghost use Rattle.definitions.specs.Place.{size_refusal};
 ghost use Rattle.qptr.specs.Values.{size_of};
 ghost use Rattle.records.specs.Records.{command_in};
-ghost use Rattle.links.specs.Rows.{nodes_at};
-ghost use Rattle.place_states.specs.Calls.{Ready, Near};
+ghost use Rattle.record_links.specs.Rows.{nodes_at};
+ghost use Rattle.place_states.specs.Calls.{Ready, NoWrap};
 ghost use Rattle.place_states.specs.States.{Waiting, Moves};
 ghost use Rattle.place_states.specs.Starts.{Plain, Begins, Began};
-ghost use Rattle.place_rules.specs.Settling.{number_in, Settled};
+ghost use Rattle.place_rules.specs.Results.{number_in, TakesResult};
 
 use layout::Table;
 use place_arrays::{begin_array, next_element};
@@ -89,7 +89,7 @@ pub fn begin(
     report: &mut Report<'_>,
 ) -> Result<State, SizeRefusal>
     requires ready { Ready table.now s.old a b }
-    requires near { Near report.old.at (nodes_at s.old a + nodes_at s.old b) }
+    requires near { NoWrap report.old.at (nodes_at s.old a + nodes_at s.old b) }
     ensures { Began table.now s.old a d b report.old s.new report.new result }
 {
     size_refusal(max_size(s, a), d, max_size(s, b))?;
@@ -97,8 +97,8 @@ pub fn begin(
 }
 
 // The pair, whose report began at `here`, has become what r says, which stands in its place. Its 31 is taken back if nothing was reported.
-pub fn settle(st: State, here: usize, r: Merged, report: &mut Report<'_>) -> State
-    ensures { Settled st here r report.old report.new result }
+pub fn take_result(st: State, here: usize, r: Merged, report: &mut Report<'_>) -> State
+    ensures { TakesResult st here r report.old report.new result }
 {
     report.take_back(here, st.mark);
     State {

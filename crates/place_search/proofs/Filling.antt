@@ -10,12 +10,12 @@ use lib.Seq.{get_or-set_same, get_or-set_other}
 use Rattle.definitions.specs.Usage.{Size, fixed, Usage, Entries, none, entry, size, count, ◌<+>◌}
 use Rattle.definitions.specs.Place.{◌≤ˢ◌}
 use Rattle.records.specs.Records.{next_in, size_in, offset_in}
-use Rattle.links.specs.Standing.{Stands, Row}
-use Rattle.links.proofs.Entries.{append_assoc, append_count}
-use Rattle.links.proofs.Stands.{stands_root}
-use Rattle.links.proofs.Rows.{Head, head, row_none, row_one, row_app}
-use Rattle.place_search.specs.Table.{nothing_is, top_of, Tells, Rows}
-use Rattle.place_search.specs.Numbers.{Marks}
+use Rattle.record_links.specs.Standing.{Stands, Row}
+use Rattle.record_links.proofs.Entries.{append_assoc, append_count}
+use Rattle.record_links.proofs.Stands.{stands_root}
+use Rattle.record_links.proofs.Rows.{Head, head, row_none, row_one, row_app}
+use Rattle.place_search.specs.Table.{nothing_is, last_of, Tells, Filled}
+use Rattle.place_search.specs.Numbers.{Denotes}
 use Rattle.place_search.specs.Parts.{Crossing, Starts}
 use Rattle.place_search.specs.Seeking.{Linked, Within, Stopped, Before}
 use Rattle.place_search.specs.Cutting.{Above, Behind, Cuts}
@@ -35,9 +35,9 @@ pub record Tabled (es : Entries) (r : ℕ → ℕ) (lo hi : ℕ) (s : List ℕ) 
   m : ℕ
   is : es ≡ front <+> back
   held : Row front s q p r lo m
-  before : (z : Size) → Marks e z → Upto z front
+  before : (z : Size) → Denotes e z → Upto z front
   back_held : Row back s p 0 r m hi
-  rows : Rows front t 0 s q
+  rows : Filled front t 0 s q
   count : count front ≡ k
 
 -- the loop's invariant: so it is, whatever entries are linked there
@@ -54,13 +54,13 @@ fill_start {s = s} {q = q} e l L = record {
 }
 
 -- rows that are as they were
-rows_kept : (es : Entries) (t t' : List Entry) (k i : ℕ) (s : List ℕ) (q : ℕ) → ((j : ℕ) → j < k → get_or t' j nothing_is ≡ get_or t j nothing_is) → i + count es ≤ k → Rows es t i s q → Rows es t' i s q
+rows_kept : (es : Entries) (t t' : List Entry) (k i : ℕ) (s : List ℕ) (q : ℕ) → ((j : ℕ) → j < k → get_or t' j nothing_is ≡ get_or t j nothing_is) → i + count es ≤ k → Filled es t i s q → Filled es t' i s q
 rows_kept none t t' k i s q kept le h = tt
 rows_kept (entry o u es) t t' k i s q kept le h =
     (subst (λ (x : Entry). Tells x o (size u) q) (sym (kept i (omega arith))) h.0, rows_kept es t t' k (suc i) s (next_in s q) kept (omega arith) h.1)
 
 -- one row more
-rows_more : (es : Entries) (t : List Entry) (i j : ℕ) (s : List ℕ) (q p : ℕ) (r : ℕ → ℕ) (lo m o : ℕ) (u : Usage) → j ≡ i + count es → Row es s q p r lo m → Rows es t i s q → Tells (get_or t j nothing_is) o (size u) p → Rows (es <+> entry o u none) t i s q
+rows_more : (es : Entries) (t : List Entry) (i j : ℕ) (s : List ℕ) (q p : ℕ) (r : ℕ → ℕ) (lo m o : ℕ) (u : Usage) → j ≡ i + count es → Row es s q p r lo m → Filled es t i s q → Tells (get_or t j nothing_is) o (size u) p → Filled (es <+> entry o u none) t i s q
 unfolding Stands
 rows_more none t i j s q p r lo m o u ej h k x =
     let ej₁ : j ≡ i = omega arith in
@@ -102,7 +102,7 @@ module _ {w : ℕ} {s : List ℕ} {q e : ℕ} {t : List Entry} {k p : ℕ} {x : 
   pub fill_more : Filling w s q e (set t k x) (k + 1) p'
   fill_more = record { long = length-set t k x ∙ G.long; there = linked_next G.there ne eq (omega arith); tabled = tabled_more }
 
-pub starts_at : (es : Entries) (s : List ℕ) (p : ℕ) (r : ℕ → ℕ) (lo hi : ℕ) {e : ℕ} → Stopped s e p → Row es s p 0 r lo hi → (z : Size) → Marks e z → Starts z es
+pub starts_at : (es : Entries) (s : List ℕ) (p : ℕ) (r : ℕ → ℕ) (lo hi : ℕ) {e : ℕ} → Stopped s e p → Row es s p 0 r lo hi → (z : Size) → Denotes e z → Starts z es
 unfolding Stands
 starts_at none s p r lo hi S h z M = tt
 starts_at (entry o u es) s p r lo hi S h z M =
@@ -119,7 +119,7 @@ crossing : (d : ℕ) (e : Size) (es : Entries) → Upto e es → Later d es → 
 crossing d e none b l = tt
 crossing d e (entry o u es) b l = (b.0, l.0, crossing d e es b.1 l.1)
 
-module _ {w : ℕ} {s : List ℕ} {q e : ℕ} {t : List Entry} {k p d l : ℕ} {c : Bool} (G : Filling w s q e t k p) (B : Before s e p c) (stop : c ≡ false) (el : l ≡ top_of t k d) where
+module _ {w : ℕ} {s : List ℕ} {q e : ℕ} {t : List Entry} {k p d l : ℕ} {c : Bool} (G : Filling w s q e t k p) (B : Before s e p c) (stop : c ≡ false) (el : l ≡ last_of t k d) where
   none_ended : l ≡ 0 → (es : Entries) (r : ℕ → ℕ) (lo hi : ℕ) → Row es s q 0 r lo hi → Above es r lo hi s q d e p
   none_ended z es r lo hi h = go (searched P.front r lo P.m s q p t 0 k d (omega (arith, P.count)) P.held P.rows)
     where
@@ -148,7 +148,7 @@ module _ {w : ℕ} {s : List ℕ} {q e : ℕ} {t : List Entry} {k p d l : ℕ} {
       go : Searched P.front r lo P.m s q p t 0 k d → Behind es r lo hi s q d e l p
       go (passed et la) = absurd (ne (el ∙ et))
       go (found init u above l' m m' is hi' st end ha la et) =
-          let parts : (y : Size) → Marks e y → Upto y init × Upto y (entry (offset_in s l') u above) = λ y M. before_split y init (entry (offset_in s l') u above) (subst (Upto y) is (P.before y M)) in
+          let parts : (y : Size) → Denotes e y → Upto y init × Upto y (entry (offset_in s l') u above) = λ y M. before_split y init (entry (offset_in s l') u above) (subst (Upto y) is (P.before y M)) in
           subst (λ (x : ℕ). Behind es r lo hi s q d e x p) (sym (el ∙ et)) (record {
             init = init;
             u = u;

@@ -1,8 +1,8 @@
-pub mod Marking
+pub mod Denoting
 pub mod Linking
 pub mod Skipping
 pub mod Searching
 pub mod Filling
 pub mod Pasts
 pub mod Parting
-pub mod Tops
+pub mod LastEnding

@@ -7,12 +7,12 @@ use native.Mathlib.Omega.{arith}
 use lib.ListN.{length}
 use Rattle.definitions.specs.Usage.{count}
 use Rattle.records.specs.Records.{next_in, child_in}
-use Rattle.links.specs.Standing.{Row}
-use Rattle.links.specs.Rows.{chain}
-use Rattle.links.proofs.Stands.{stands_root}
-use Rattle.links.proofs.Rows.{Head, head}
-use Rattle.links.proofs.Chains.{row_falls}
-use Rattle.links.proofs.Entries.{few_entries}
+use Rattle.record_links.specs.Standing.{Row}
+use Rattle.record_links.specs.Rows.{chain}
+use Rattle.record_links.proofs.Stands.{stands_root}
+use Rattle.record_links.proofs.Rows.{Head, head}
+use Rattle.record_links.proofs.Chains.{row_falls}
+use Rattle.record_links.proofs.Entries.{few_entries}
 use Rattle.place_search.specs.Parts.{Listed}
 use Rattle.place_search.specs.Seeking.{Linked, Within}
 

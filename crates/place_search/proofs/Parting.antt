@@ -10,13 +10,13 @@ use native.Mathlib.Omega.{arith}
 use lib.ListN.{length}
 use Rattle.definitions.specs.Usage.{Size, Entries, none, entry, count, ◌<+>◌}
 use Rattle.records.specs.Records.{next_in, offset_in}
-use Rattle.links.specs.Standing.{Row}
-use Rattle.links.specs.Rows.{Up, link, onto}
-use Rattle.links.proofs.Stands.{stands_root, link_suc}
-use Rattle.links.proofs.Entries.{append_count, rev_app, rev_rev}
-use Rattle.links.proofs.Rows.{row_none, row_app, up_run, up_one}
-use Rattle.place_search.specs.Numbers.{Marks}
-use Rattle.place_search.specs.Parts.{any_past, Ended, Parted, Told}
+use Rattle.record_links.specs.Standing.{Row}
+use Rattle.record_links.specs.Rows.{Up, link, onto}
+use Rattle.record_links.proofs.Stands.{stands_root, link_suc}
+use Rattle.record_links.proofs.Entries.{append_count, rev_app, rev_rev}
+use Rattle.record_links.proofs.Rows.{row_none, row_app, up_run, up_one}
+use Rattle.place_search.specs.Numbers.{Denotes}
+use Rattle.place_search.specs.Parts.{any_past, LastEndsBy, Parted, Told}
 use Rattle.place_search.specs.Seeking.{Linked, Before, Begun, Skips, Sought}
 use Rattle.place_search.specs.Cutting.{Above, Behind, Cuts, Between, Reaches, Found}
 use Rattle.place_search.specs.declared.Overlap.{Overlap}
@@ -62,7 +62,7 @@ reaches {s} {q} {d} {e} {l} {p} L C = record { none = none_reached; one = one_re
 
 -- those up to low, and those from f on, of which the ones before p overlap
 
-parted : (es x rest : Entries) (r : ℕ → ℕ) (lo m hi : ℕ) (s : List ℕ) (a d : ℕ) (z : Size) (e low f p : ℕ) (b : Overlap) (c : Bool) → Marks e z → b.low ≡ low → b.first ≡ f → b.above ≡ p → es ≡ onto x rest → Up x s a low r lo m → link s a low ≡ f → Ended d z (onto x none)
+parted : (es x rest : Entries) (r : ℕ → ℕ) (lo m hi : ℕ) (s : List ℕ) (a d : ℕ) (z : Size) (e low f p : ℕ) (b : Overlap) (c : Bool) → Denotes e z → b.low ≡ low → b.first ≡ f → b.above ≡ p → es ≡ onto x rest → Up x s a low r lo m → link s a low ≡ f → LastEndsBy d z (onto x none)
     → (A : Above rest r m hi s f d e p) → c ≡ any_past A.mid → Parted es r lo hi s a d z b c
 parted es x rest r lo m hi s a d z e low f p b c M el ef ep is U lk en A ea = record {
   low_down = x;
@@ -82,7 +82,7 @@ parted es x rest r lo m hi s a d z e low f p b c M el ef ep is U lk en A ea = re
 }
 
 module _ {s : List ℕ} {d e low q l p : ℕ} (C : Cuts s q d e l p) where
-  parted_by : (b : Overlap) (c : Bool) → Found s low q l p b c → (z : Size) (es : Entries) (r : ℕ → ℕ) (lo hi a : ℕ) → Marks e z → Begun es r lo hi s a d z low q → Parted es r lo hi s a d z b c
+  parted_by : (b : Overlap) (c : Bool) → Found s low q l p b c → (z : Size) (es : Entries) (r : ℕ → ℕ) (lo hi a : ℕ) → Denotes e z → Begun es r lo hi s a d z low q → Parted es r lo hi s a d z b c
   unfolding onto
   parted_by b c F z es r lo hi a M B = elim (ℕ_discrete l 0) [
     | yes h ↦

@@ -9,11 +9,11 @@ use lib.ListN.{length}
 use Rattle.definitions.specs.Usage.{Size, Entries, size}
 use Rattle.definitions.specs.Place.{ends, past32}
 use Rattle.records.specs.Records.{next_in, size_in, offset_in}
-use Rattle.links.specs.Standing.{Row}
-use Rattle.links.specs.Rows.{chain}
-use Rattle.links.proofs.Stands.{stands_root}
-use Rattle.links.proofs.Rows.{Head, head, end, first_past}
-use Rattle.place_search.specs.Numbers.{Marks, Past}
+use Rattle.record_links.specs.Standing.{Row}
+use Rattle.record_links.specs.Rows.{chain}
+use Rattle.record_links.proofs.Stands.{stands_root}
+use Rattle.record_links.proofs.Rows.{Head, head, end, first_past}
+use Rattle.place_search.specs.Numbers.{Denotes, Past}
 use Rattle.place_search.specs.Parts.{any_past}
 use Rattle.place_search.specs.Cutting.{Between, AnyPast}
 use Rattle.place_search.proofs.Linking.{linked_inside, linked_next, linked_less}
@@ -46,7 +46,7 @@ module _ {s : List ℕ} {q e p : ℕ} (P : Passing s q e p) (ne : p ≡ e → �
   pub pass_less : {p' : ℕ} → p' ≡ next_in s p → chain 65536 s p' < chain 65536 s p
   pass_less eq = linked_less P.there.linked some eq
 
-  module _ {o f : ℕ} {c : Bool} (eo : o ≡ offset_in s p) (M : Marks f (ends o (size_in s p))) (N : Past f c) where
+  module _ {o f : ℕ} {c : Bool} (eo : o ≡ offset_in s p) (M : Denotes f (ends o (size_in s p))) (N : Past f c) where
     one_past : (es : Entries) (r : ℕ → ℕ) (lo hi : ℕ) (v : Head es s p e r lo hi) → any_past es ≡ (c || any_past v.rest)
     one_past es r lo hi v =
         let R = stands_root v.u s p r lo v.m v.stands in

@@ -10,25 +10,25 @@ use lib.ListN.{length}
 use Rattle.definitions.specs.Usage.{Size, fixed, Usage, Entries, none, entry, size, count}
 use Rattle.definitions.specs.Place.{ends, ◌≤ˢ◌}
 use Rattle.records.specs.Records.{next_in, child_in, size_in, argument_in, offset_in}
-use Rattle.links.specs.Standing.{Row, Finger}
-use Rattle.links.specs.Rows.{Up, link, onto, chain}
-use Rattle.links.proofs.Entries.{few_entries, rev_app, count_onto}
-use Rattle.links.proofs.Stands.{stands_root, link_suc}
-use Rattle.links.proofs.Fingers.{Parted as Fingered, finger_split}
-use Rattle.links.proofs.Rows.{head, up_in, up_none, up_one}
-use Rattle.place_search.specs.Numbers.{Marks}
-use Rattle.place_search.specs.Parts.{Listed, Ended, nothing, by, Parts}
+use Rattle.record_links.specs.Standing.{Row, Finger}
+use Rattle.record_links.specs.Rows.{Up, link, onto, chain}
+use Rattle.record_links.proofs.Entries.{few_entries, rev_app, count_onto}
+use Rattle.record_links.proofs.Stands.{stands_root, link_suc}
+use Rattle.record_links.proofs.Fingers.{Parted as Fingered, finger_split}
+use Rattle.record_links.proofs.Rows.{head, up_in, up_none, up_one}
+use Rattle.place_search.specs.Numbers.{Denotes}
+use Rattle.place_search.specs.Parts.{Listed, LastEndsBy, nothing, by, Parts}
 use Rattle.place_search.specs.Seeking.{Linked, Within, Early, Passes, Begun, Skips, Sought}
 use Rattle.place_search.specs.declared.Overlap.{Overlap}
 use Rattle.place_search.proofs.Linking.{linked_inside, linked_within, linked_next, linked_less}
 
 -- the last that was stepped over
 
-pub last_ended : (x : Entries) (o : ℕ) (u : Usage) (d : ℕ) (z : Size) → (z ≤ˢ fixed o) ≡ false → (ends o (size u) ≤ˢ fixed d) ≡ true → Ended d z (onto (entry o u x) none)
+pub last_ended : (x : Entries) (o : ℕ) (u : Usage) (d : ℕ) (z : Size) → (z ≤ˢ fixed o) ≡ false → (ends o (size u) ≤ˢ fixed d) ≡ true → LastEndsBy d z (onto (entry o u x) none)
 unfolding onto
-last_ended x o u d z hs he = subst (Ended d z) (sym (rev_app x (entry o u none))) (by (onto x none) o u hs he)
+last_ended x o u d z hs he = subst (LastEndsBy d z) (sym (rev_app x (entry o u none))) (by (onto x none) o u hs he)
 
-up_ended : (x : Entries) (s : List ℕ) (a p : ℕ) (r : ℕ → ℕ) (lo m d : ℕ) (z : Size) {e : ℕ} → Early s e p → (ends (offset_in s p) (size_in s p) ≤ˢ fixed d) ≡ true → Marks e z → Up x s a p r lo m → Ended d z (onto x none)
+up_ended : (x : Entries) (s : List ℕ) (a p : ℕ) (r : ℕ → ℕ) (lo m d : ℕ) (z : Size) {e : ℕ} → Early s e p → (ends (offset_in s p) (size_in s p) ≤ˢ fixed d) ≡ true → Denotes e z → Up x s a p r lo m → LastEndsBy d z (onto x none)
 unfolding Up
 up_ended none s a p r lo m d z P E M U = absurd (P.some U.0)
 up_ended (entry o u x) s a p r lo m d z P E M U =
@@ -36,14 +36,14 @@ up_ended (entry o u x) s a p r lo m d z P E M U =
     last_ended x o u d z (subst (λ (y : ℕ). (z ≤ˢ fixed y) ≡ false) U.2 (P.starts z M))
     (subst (λ (y : ℕ). (ends y (size u) ≤ˢ fixed d) ≡ true) U.2 (subst (λ (y : Size). (ends (offset_in s p) y ≤ˢ fixed d) ≡ true) R.size E))
 
-begun_at : (es x rest : Entries) (r : ℕ → ℕ) (lo m hi : ℕ) (s : List ℕ) (a d : ℕ) (z : Size) (p : ℕ) {e p' : ℕ} → Early s e p → (ends (offset_in s p) (size_in s p) ≤ˢ fixed d) ≡ true → Marks e z → p' ≡ next_in s p → es ≡ onto x rest → Up x s a p r lo m
+begun_at : (es x rest : Entries) (r : ℕ → ℕ) (lo m hi : ℕ) (s : List ℕ) (a d : ℕ) (z : Size) (p : ℕ) {e p' : ℕ} → Early s e p → (ends (offset_in s p) (size_in s p) ≤ˢ fixed d) ≡ true → Denotes e z → p' ≡ next_in s p → es ≡ onto x rest → Up x s a p r lo m
     → Row rest s (link s a p) 0 r m hi → Begun es r lo hi s a d z p p'
 begun_at es x rest r lo m hi s a d z p P E M e is U h =
     let some : 1 ≤ p = omega (arith, P.some) in
     let el = link_suc s a p some ∙ sym e in
     record { below = x; rest = rest; m = m; is = is; up = U; linked = el; row = subst (λ (q : ℕ). Row rest s q 0 r m hi) el h; ended = up_ended x s a p r lo m d z P E M U }
 
-begun_next : {es : Entries} {r : ℕ → ℕ} {lo hi : ℕ} {s : List ℕ} {a d : ℕ} {z : Size} {e l p p' : ℕ} → Early s e p → (ends (offset_in s p) (size_in s p) ≤ˢ fixed d) ≡ true → Marks e z → p' ≡ next_in s p → Begun es r lo hi s a d z l p → Begun es r lo hi s a d z p p'
+begun_next : {es : Entries} {r : ℕ → ℕ} {lo hi : ℕ} {s : List ℕ} {a d : ℕ} {z : Size} {e l p p' : ℕ} → Early s e p → (ends (offset_in s p) (size_in s p) ≤ˢ fixed d) ≡ true → Denotes e z → p' ≡ next_in s p → Begun es r lo hi s a d z l p → Begun es r lo hi s a d z p p'
 unfolding onto
 begun_next {es} {r} {lo} {hi} {s} {a} {d} {z} {l = l} {p = p} P E M e B =
     let v = head B.rest s p 0 r B.m hi P.some B.row in

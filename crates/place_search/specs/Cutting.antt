@@ -4,8 +4,8 @@ use Rattle.std.specs.Prelude.{ℕ, ◌+◌, ◌*◌, ◌≤◌, ◌≡◌, Bool,
 use Rattle.definitions.specs.Usage.{Size, fixed, Usage, Entries, entry, size, ◌<+>◌}
 use Rattle.definitions.specs.Place.{ends, ◌≤ˢ◌}
 use Rattle.records.specs.Records.{next_in, offset_in}
-use Rattle.links.specs.Standing.{Stands, Row}
-use Rattle.place_search.specs.Numbers.{Marks}
+use Rattle.record_links.specs.Standing.{Stands, Row}
+use Rattle.place_search.specs.Numbers.{Denotes}
 use Rattle.place_search.specs.Parts.{any_past, Crossing, Starts}
 use Rattle.place_search.specs.Seeking.{Linked}
 use Rattle.place_search.specs.declared.Overlap.{Overlap}
@@ -17,9 +17,9 @@ pub record Above (es : Entries) (r : ℕ → ℕ) (lo hi : ℕ) (s : List ℕ) (
   pub n : ℕ
   pub is : es ≡ mid <+> high
   pub mid_held : Row mid s q p r lo n
-  pub mid_crossing : (z : Size) → Marks e z → Crossing d z mid
+  pub mid_crossing : (z : Size) → Denotes e z → Crossing d z mid
   pub high_held : Row high s p 0 r n hi
-  pub high_starts : (z : Size) → Marks e z → Starts z high
+  pub high_starts : (z : Size) → Denotes e z → Starts z high
 
 -- the one at record l starts before e and ends by d, and so it is with those behind it
 pub record Behind (es : Entries) (r : ℕ → ℕ) (lo hi : ℕ) (s : List ℕ) (q d e l p : ℕ) : Type 0 where
@@ -31,7 +31,7 @@ pub record Behind (es : Entries) (r : ℕ → ℕ) (lo hi : ℕ) (s : List ℕ) 
   pub is : es ≡ init <+> entry (offset_in s l) u rest
   pub init_held : Row init s q l r lo m
   pub stands : Stands u s l r m n
-  pub starts : (z : Size) → Marks e z → (z ≤ˢ fixed (offset_in s l)) ≡ false
+  pub starts : (z : Size) → Denotes e z → (z ≤ˢ fixed (offset_in s l)) ≡ false
   pub ends : (ends (offset_in s l) (size u) ≤ˢ fixed d) ≡ true
   pub above : Above rest r n hi s (next_in s l) d e p
 

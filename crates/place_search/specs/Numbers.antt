@@ -16,10 +16,10 @@ Small dynamic = Unit {0}
 Small (fixed n) = n < above_all
 
 -- e stands for the place z
-pub record Marks (e : ℕ) (z : Size) : Type 0 where
+pub record Denotes (e : ℕ) (z : Size) : Type 0 where
   pub is : e ≡ number_of z
   pub small : Small z
 
 -- r says whether the place that e stands for is past 32 bits
 pub record Past (e : ℕ) (r : Bool) : Type 0 where
-  pub of : (z : Size) → Marks e z → r ≡ past32 z
+  pub of : (z : Size) → Denotes e z → r ≡ past32 z

@@ -5,9 +5,9 @@ use Rattle.definitions.specs.Limits.{node_limit}
 use Rattle.definitions.specs.Usage.{Size, fixed, Usage, Entries, none, entry, size, nodes_in, ◌<+>◌}
 use Rattle.definitions.specs.Place.{ends, past32, ◌≤ˢ◌}
 use Rattle.records.specs.Records.{child_in}
-use Rattle.links.specs.Standing.{Finger, Row}
-use Rattle.links.specs.Rows.{Up, link, onto}
-use Rattle.place_search.specs.Numbers.{Marks}
+use Rattle.record_links.specs.Standing.{Finger, Row}
+use Rattle.record_links.specs.Rows.{Up, link, onto}
+use Rattle.place_search.specs.Numbers.{Denotes}
 use Rattle.place_search.specs.declared.Overlap.{Overlap}
 
 -- some entries are linked below record a, few enough for the largest table
@@ -33,9 +33,9 @@ Crossing d e none = Unit {0}
 Crossing d e (entry o u es) = ((e ≤ˢ fixed o) ≡ false) × ((ends o (size u) ≤ˢ fixed d) ≡ false) × Crossing d e es
 
 -- none; or the last of them starts before e and ends by d
-pub data Ended (d : ℕ) (e : Size) : Entries → Type 0 where
-  nothing : Ended d e none
-  by : (es : Entries) (o : ℕ) (u : Usage) → (e ≤ˢ fixed o) ≡ false → (ends o (size u) ≤ˢ fixed d) ≡ true → Ended d e (es <+> entry o u none)
+pub data LastEndsBy (d : ℕ) (e : Size) : Entries → Type 0 where
+  nothing : LastEndsBy d e none
+  by : (es : Entries) (o : ℕ) (u : Usage) → (e ≤ˢ fixed o) ≡ false → (ends o (size u) ≤ˢ fixed d) ≡ true → LastEndsBy d e (es <+> entry o u none)
 
 -- none; or the first of them starts at e or later
 abbrev pub Starts : Size → Entries → Type 0
@@ -53,7 +53,7 @@ pub record Parted (es : Entries) (r : ℕ → ℕ) (lo hi : ℕ) (s : List ℕ) 
   pub is : es ≡ onto low_down none <+> mid <+> high
   pub low_held : Up low_down s a b.low r lo m
   pub linked : link s a b.low ≡ b.first
-  pub low_ended : Ended d e (onto low_down none)
+  pub low_ended : LastEndsBy d e (onto low_down none)
   pub mid_held : Row mid s b.first b.above r m n
   pub mid_crossing : Crossing d e mid
   pub mid_past : past ≡ any_past mid
@@ -67,4 +67,4 @@ Told P None = (b : Overlap) × P b true
 
 -- whatever entries are linked there, and whatever place the number e stands for
 pub record Parts (s : List ℕ) (a d e : ℕ) (b : Option Overlap) : Type 0 where
-  pub parted : (z : Size) (es : Entries) (r : ℕ → ℕ) (lo hi : ℕ) → Marks e z → Row es s (child_in s a) 0 r lo hi → Finger es s a → Told (Parted es r lo hi s a d z) b
+  pub parted : (z : Size) (es : Entries) (r : ℕ → ℕ) (lo hi : ℕ) → Denotes e z → Row es s (child_in s a) 0 r lo hi → Finger es s a → Told (Parted es r lo hi s a d z) b

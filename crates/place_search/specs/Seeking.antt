@@ -4,10 +4,10 @@ use Rattle.std.specs.Prelude.{ℕ, ◌+◌, ◌*◌, ◌≤◌, ◌≡◌, Bool,
 use Rattle.definitions.specs.Usage.{Size, fixed, Entries, none, count}
 use Rattle.definitions.specs.Place.{ends, ◌≤ˢ◌}
 use Rattle.records.specs.Records.{size_in, offset_in}
-use Rattle.links.specs.Standing.{Row}
-use Rattle.links.specs.Rows.{Up, link, onto}
-use Rattle.place_search.specs.Numbers.{Marks}
-use Rattle.place_search.specs.Parts.{Ended, Parted, Told}
+use Rattle.record_links.specs.Standing.{Row}
+use Rattle.record_links.specs.Rows.{Up, link, onto}
+use Rattle.place_search.specs.Numbers.{Denotes}
+use Rattle.place_search.specs.Parts.{LastEndsBy, Parted, Told}
 use Rattle.place_search.specs.declared.Overlap.{Overlap}
 
 -- some entries are linked from record q on; k of at most 511 come before them
@@ -27,11 +27,11 @@ pub record Within (s : List ℕ) (p : ℕ) : Type 0 where
 -- there is an entry at record p, and it starts before e
 pub record Early (s : List ℕ) (e p : ℕ) : Type 0 where
   pub some : p ≡ 0 → ⊥
-  pub starts : (z : Size) → Marks e z → (z ≤ˢ fixed (offset_in s p)) ≡ false
+  pub starts : (z : Size) → Denotes e z → (z ≤ˢ fixed (offset_in s p)) ≡ false
 
 -- no entry is left at record p, or it starts at e or later
 pub record Stopped (s : List ℕ) (e p : ℕ) : Type 0 where
-  pub starts : (p ≡ 0 → ⊥) → (z : Size) → Marks e z → (z ≤ˢ fixed (offset_in s p)) ≡ true
+  pub starts : (p ≡ 0 → ⊥) → (z : Size) → Denotes e z → (z ≤ˢ fixed (offset_in s p)) ≡ true
 
 -- r says which
 pub record Before (s : List ℕ) (e p : ℕ) (r : Bool) : Type 0 where
@@ -52,13 +52,13 @@ pub record Begun (es : Entries) (r : ℕ → ℕ) (lo hi : ℕ) (s : List ℕ) (
   pub up : Up below s a low r lo m
   pub linked : link s a low ≡ q
   pub row : Row rest s q 0 r m hi
-  pub ended : Ended d z (onto below none)
+  pub ended : LastEndsBy d z (onto below none)
 
 -- whatever had begun so at q has begun so at q'
 pub record Skips (s : List ℕ) (d e low q low' q' : ℕ) : Type 0 where
   pub there : Linked s q' 0
-  pub skips : (z : Size) (es : Entries) (r : ℕ → ℕ) (lo hi a : ℕ) → Marks e z → Begun es r lo hi s a d z low q → Begun es r lo hi s a d z low' q'
+  pub skips : (z : Size) (es : Entries) (r : ℕ → ℕ) (lo hi a : ℕ) → Denotes e z → Begun es r lo hi s a d z low q → Begun es r lo hi s a d z low' q'
 
 -- whatever had begun so is parted by b
 pub record Sought (s : List ℕ) (d e low q : ℕ) (b : Option Overlap) : Type 0 where
-  pub sought : (z : Size) (es : Entries) (r : ℕ → ℕ) (lo hi a : ℕ) → Marks e z → Begun es r lo hi s a d z low q → Told (Parted es r lo hi s a d z) b
+  pub sought : (z : Size) (es : Entries) (r : ℕ → ℕ) (lo hi a : ℕ) → Denotes e z → Begun es r lo hi s a d z low q → Told (Parted es r lo hi s a d z) b

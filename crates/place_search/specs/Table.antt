@@ -21,9 +21,9 @@ pick true a b = a
 pick false a b = b
 
 -- of the rows below k, the record of the topmost that ends by d; 0 where none does
-abbrev pub top_of : List Entry → ℕ → ℕ → ℕ
-top_of t zero d = zero
-top_of t (suc k) d = pick (ends_by (get_or t k nothing_is) d) (get_or t k nothing_is).node (top_of t k d)
+abbrev pub last_of : List Entry → ℕ → ℕ → ℕ
+last_of t zero d = zero
+last_of t (suc k) d = pick (ends_by (get_or t k nothing_is) d) (get_or t k nothing_is).node (last_of t k d)
 
 -- the row e is the entry at record q, with this offset and size
 pub record Tells (e : Entry) (o : ℕ) (z : Size) (q : ℕ) : Type 0 where
@@ -32,6 +32,6 @@ pub record Tells (e : Entry) (o : ℕ) (z : Size) (q : ℕ) : Type 0 where
   pub node : e.node ≡ q
 
 -- the rows from place i on are these entries, which are linked from record q on
-abbrev pub Rows : Entries → List Entry → ℕ → List ℕ → ℕ → Type 0
-Rows none t i s q = Unit {0}
-Rows (entry o u es) t i s q = Tells (get_or t i nothing_is) o (size u) q × Rows es t (suc i) s (next_in s q)
+abbrev pub Filled : Entries → List Entry → ℕ → List ℕ → ℕ → Type 0
+Filled none t i s q = Unit {0}
+Filled (entry o u es) t i s q = Tells (get_or t i nothing_is) o (size u) q × Filled es t (suc i) s (next_in s q)

@@ -6,8 +6,8 @@ ghost use Rattle.std.specs.Prelude.{◌≡◌, ◌+◌, ◌*◌, ◌<◌, ◌≤
 ghost use Rattle.definitions.specs.Place.{ends};
 ghost use Rattle.qptr.specs.Values.{size_of};
 ghost use Rattle.records.specs.Records.{next_in, size_in, offset_in};
-ghost use Rattle.place_search.specs.Numbers.{Marks, Past};
-ghost use Rattle.place_search.specs.Table.{ends_by, top_of, Tells};
+ghost use Rattle.place_search.specs.Numbers.{Denotes, Past};
+ghost use Rattle.place_search.specs.Table.{ends_by, last_of, Tells};
 ghost use Rattle.place_search.specs.Parts.{Listed, Told, Parts};
 ghost use Rattle.place_search.specs.Seeking.{Linked, Within, Before, Passes, Skips, Sought};
 ghost use Rattle.place_search.specs.Cutting.{Cuts, Between, AnyPast, Reaches, Found};
@@ -23,10 +23,10 @@ const MAX32: u64 = u32::MAX as u64;
 const DYNAMIC: u64 = 0x1_0000_0000_0000;
 
 // The rows of a small table, which is cheap to clear; one is left over.
-const FEW: usize = 9;
+const SMALL: usize = 9;
 
 // The rows of a large one. A map's own node and its entries are at most 512, so here too one is left over.
-const MOST: usize = 512;
+const LARGE: usize = 512;
 
 // The entries of a map: the last one below (0 for none), the first one that overlaps, and the first one above (0 for none); where no
 // entry overlaps, the last two are the same.
@@ -54,7 +54,7 @@ const NOTHING: Entry = Entry {
 
 // Where something ends that starts at o; a dynamic one is last.
 pub fn end(o: u32, z: MaxSize) -> u64
-    ensures { Marks result (ends o (size_of z)) }
+    ensures { Denotes result (ends o (size_of z)) }
 {
     match z {
         MaxSize::Dynamic => DYNAMIC,
@@ -65,7 +65,7 @@ pub fn end(o: u32, z: MaxSize) -> u64
 // The same of what stands at record q.
 pub fn end_at(s: &[u8], q: usize, o: u32) -> u64
     requires { q * 32 + 32 ≤ length s.now }
-    ensures { Marks result (ends o (size_in s.now q)) }
+    ensures { Denotes result (ends o (size_in s.now q)) }
 {
     end(o, max_size(s, q))
 }
@@ -97,8 +97,8 @@ impl Entry {
 }
 
 // The record of the topmost entry that ends by d, and 0 where none does. Document 01 has it over a table that is lent.
-pub fn top(entries: &[Entry], d: u32) -> u16
-    ensures { result ≡ top_of entries.now (length entries.now) d }
+pub fn last_ending_by(entries: &[Entry], d: u32) -> u16
+    ensures { result ≡ last_of entries.now (length entries.now) d }
 {
     entries
         .iter()
@@ -199,7 +199,7 @@ fn cut_in<const N: usize>(s: &[u8], q: usize, range: Range) -> Option<Cut>
     for k in 0..N {
         if !starts_before(s, p, range.end) {
             return Some(Cut {
-                low: usize::from(top(&t[..k], range.start)),
+                low: usize::from(last_ending_by(&t[..k], range.start)),
                 above: p,
             });
         }
@@ -214,10 +214,10 @@ fn cut_all(s: &[u8], q: usize, range: Range) -> Cut
     requires { Linked s.now q 0 }
     ensures { Cuts s.now q range.start range.end result.low result.above }
 {
-    if let Some(few) = cut_in::<FEW>(s, q, range) {
+    if let Some(few) = cut_in::<SMALL>(s, q, range) {
         return few;
     }
-    cut_in::<MOST>(s, q, range).unwrap()
+    cut_in::<LARGE>(s, q, range).unwrap()
 }
 
 // Those behind the cut's `low` overlap, up to its `above`; where `low` is 0, those behind `from`.

@@ -7,7 +7,7 @@ use Rattle.definitions.specs.Table.{Setting}
 use Rattle.definitions.specs.Place.{Result}
 use Rattle.report.specs.declared.Report.{Report}
 use Rattle.place_states.specs.Calls.{Ground, Done}
-use Rattle.place_states.specs.Ends.{merged_of}
+use Rattle.place_states.specs.Finished.{merged_of}
 use Rattle.place_states.specs.States.{Held, Pending, Ahead, Next}
 use Rattle.place_states.specs.declared.State.{State}
 use Rattle.place_states.specs.declared.Pairing.{Pairing}

@@ -5,16 +5,16 @@ use Rattle.std.specs.Prelude.{Ok}
 use Rattle.definitions.specs.Usage.{Usage, nodes}
 use Rattle.definitions.specs.Table.{Setting}
 use Rattle.definitions.specs.Place.{Result, done, of_rule}
-use Rattle.links.proofs.Chains.{chain_zero}
-use Rattle.links.proofs.Frames.{kept_none}
-use Rattle.links.proofs.Stands.{stands_le, stands_wide}
+use Rattle.record_links.proofs.Chains.{chain_zero}
+use Rattle.record_links.proofs.Frames.{kept_none}
+use Rattle.record_links.proofs.Stands.{stands_le, stands_wide}
 use Rattle.report.specs.Emitted.{Emitted}
 use Rattle.report.proofs.Emitting.{emitted_back}
 use Rattle.report.specs.declared.Report.{Report}
 use Rattle.place_states.specs.Calls.{Two, Ground, Done, ground}
-use Rattle.place_states.specs.Beyond.{Beyond, finish, outer}
-use Rattle.place_states.specs.States.{Standing, Next, Short, Moves}
-use Rattle.place_states.specs.Ends.{finished_state, Unheaded}
+use Rattle.place_states.specs.Continuation.{Continuation, finish, outer}
+use Rattle.place_states.specs.States.{SoFar, Next, Short, Moves}
+use Rattle.place_states.specs.Finished.{finished_state, Unheaded}
 use Rattle.place_states.specs.declared.State.{State}
 
 module _ (setting : Setting) (g : Ground) (n : ℕ) (s : List ℕ) (rep : Report) (a : ℕ) where
@@ -36,8 +36,8 @@ next_kept setting {s} {a} {b} {r} {lo} {mid} {hi} {t} {u} two n w {rep} {rep'} E
 
 -- a step that ends the placing: nothing comes after it
 pub moves_finished : (s : List ℕ) (rep : Report) (a : ℕ) (st : State) (s' : List ℕ) (rep' : Report) (st' : State) (x p : ℕ) → st' ≡ finished_state x p
-    → ((setting : Setting) (y : Beyond) (u : Usage) (w : List ℕ) (q : ℕ) (g : Ground) (n : ℕ) → nodes u + outer y ≤ n
-    → Standing (length setting.table) y u w q g s rep a st → Short g.report.at (finish setting y u w q) → Next setting (finish setting y u w q) g n s' rep' a (finished_state x p))
+    → ((setting : Setting) (y : Continuation) (u : Usage) (w : List ℕ) (q : ℕ) (g : Ground) (n : ℕ) → nodes u + outer y ≤ n
+    → SoFar (length setting.table) y u w q g s rep a st → Short g.report.at (finish setting y u w q) → Next setting (finish setting y u w q) g n s' rep' a (finished_state x p))
     → Moves s rep a st s' rep' st'
 moves_finished s rep a st s' rep' st' x p e N = rw e (record { fall = omega (arith, chain_zero 65536 s'); next = N })
 

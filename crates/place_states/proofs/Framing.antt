@@ -3,12 +3,12 @@
 use Rattle.std.proofs.Common.{ℕ, suc, ◌≤◌, List, sym, ap, ◌∙◌, subst, arith}
 use Rattle.records.specs.Records.{Cell}
 use Rattle.definitions.specs.Usage.{Size}
-use Rattle.links.specs.Standing.{Root}
-use Rattle.links.specs.Rows.{Up}
-use Rattle.links.specs.Frames.{Kept}
-use Rattle.links.proofs.Stands.{root_same, row_still, down_still, up_still, down_le}
-use Rattle.links.proofs.Frames.{apart}
-use Rattle.place_states.specs.Beyond.{Beyond, entries, element, joins}
+use Rattle.record_links.specs.Standing.{Root}
+use Rattle.record_links.specs.Rows.{Up}
+use Rattle.record_links.specs.Frames.{Kept}
+use Rattle.record_links.proofs.Stands.{root_same, row_still, down_still, up_still, down_le}
+use Rattle.record_links.proofs.Frames.{apart}
+use Rattle.place_states.specs.Continuation.{Continuation, entries, element, joins}
 use Rattle.place_states.specs.States.{Outside}
 use Rattle.place_states.specs.declared.State.{State}
 
@@ -19,7 +19,7 @@ root_below s s' q r r' lo c e k z K R =
     root_same s s' q r r' lo c lo c k z K.len w.0 (omega (arith, R.low, w.1)) (omega (arith, R.high, w.1)) R
 
 -- the pair, or its result, has the ranks from c to e
-pub outside_kept : (k : ℕ) (y : Beyond) (s s' : List ℕ) (a : ℕ) (st : State) (r r' : ℕ → ℕ) (lo c e hi : ℕ) → c ≤ e → Kept s r s' r' c e
+pub outside_kept : (k : ℕ) (y : Continuation) (s s' : List ℕ) (a : ℕ) (st : State) (r r' : ℕ → ℕ) (lo c e hi : ℕ) → c ≤ e → Kept s r s' r' c e
     → Outside k y s a st r lo c e hi → Outside k y s' a st r' lo c e hi
 unfolding Outside
 outside_kept k (entries es) s s' a st r r' lo c e hi ce K h = record {

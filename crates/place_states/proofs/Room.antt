@@ -9,7 +9,7 @@ use Rattle.definitions.proofs.Nodes.{append_nodes}
 use Rattle.definitions.proofs.Bound.{append_pairs}
 use Rattle.definitions.proofs.Demand.{few_pairs}
 use Rattle.definitions.proofs.FewPairings.{place_few}
-use Rattle.place_states.specs.Beyond.{joins, spare}
+use Rattle.place_states.specs.Continuation.{joins, spare}
 use Rattle.place_states.specs.States.{Short}
 
 -- where a placing begins

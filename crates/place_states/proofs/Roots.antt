@@ -6,9 +6,9 @@ use Rattle.definitions.specs.Command.{head_of}
 use Rattle.definitions.specs.Table.{Setting}
 use Rattle.definitions.specs.Place.{Placing, place_by_kind, place_in_kind}
 use Rattle.records.specs.Records.{command_in, size_in}
-use Rattle.links.specs.Standing.{Root}
-use Rattle.links.proofs.ByCommand.{IsUnused, IsMap, IsArray, unused_of, map_of, array_of}
-use Rattle.links.proofs.Stands.{stands_root}
+use Rattle.record_links.specs.Standing.{Root}
+use Rattle.record_links.proofs.ByCommand.{IsUnused, IsMap, IsArray, unused_of, map_of, array_of}
+use Rattle.record_links.proofs.Stands.{stands_root}
 use Rattle.place_states.specs.Calls.{Two}
 use Rattle.place_states.specs.Starts.{Plain}
 

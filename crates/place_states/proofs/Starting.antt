@@ -5,11 +5,11 @@ use Rattle.std.proofs.Common.{◌≡◌, ℕ, ◌+◌, List, length, arith}
 use Rattle.std.specs.Prelude.{Result as Returned}
 use Rattle.definitions.specs.Usage.{Usage, nodes}
 use Rattle.definitions.specs.Table.{Setting}
-use Rattle.links.specs.Rows.{nodes_at}
-use Rattle.links.proofs.Stands.{stands_root}
-use Rattle.links.proofs.Weights.{nodes_at_lem}
+use Rattle.record_links.specs.Rows.{nodes_at}
+use Rattle.record_links.proofs.Stands.{stands_root}
+use Rattle.record_links.proofs.Weights.{nodes_at_lem}
 use Rattle.layout.specs.declared.table.Table.{Table}
-use Rattle.layout.specs.Places.{Known}
+use Rattle.layout.specs.Located.{Known}
 use Rattle.report.specs.declared.Report.{Report}
 use Rattle.place_states.specs.Calls.{Two, Linkable, Ready}
 use Rattle.place_states.specs.Starts.{Begins, Starts}

@@ -6,10 +6,10 @@ use Rattle.definitions.specs.Usage.{Usage, nodes}
 use Rattle.definitions.specs.Table.{Setting}
 use Rattle.definitions.specs.Place.{Result, refused, done, place, merge_mem}
 use Rattle.definitions.specs.Sound.{Storable}
-use Rattle.links.specs.Standing.{Stands}
-use Rattle.links.specs.Frames.{Kept}
+use Rattle.record_links.specs.Standing.{Stands}
+use Rattle.record_links.specs.Frames.{Kept}
 use Rattle.layout.specs.declared.table.Table.{Table}
-use Rattle.layout.specs.Places.{Known}
+use Rattle.layout.specs.Located.{Known}
 use Rattle.report.specs.Emitted.{Emitted, SameBuffer}
 use Rattle.report.specs.declared.Report.{Report}
 use Rattle.place_states.specs.Refusals.{number_of}
@@ -62,8 +62,8 @@ pub record Ready (table : Table) (s : List ℕ) (a b : ℕ) : Type 0 where
   pub linkable : Linkable s
 
 -- the report, at this position, and those on the way down through n nodes, stay far from where positions wrap
-abbrev pub Near : ℕ → ℕ → Type 0
-Near at n = at + n * 2 ^ 38 ≤ 2 ^ 62
+abbrev pub NoWrap : ℕ → ℕ → Type 0
+NoWrap at n = at + n * 2 ^ 38 ≤ 2 ^ 62
 
 -- where a placing began: the records with their ranks, those from lo to hi being the two usages', and the report
 pub record Ground : Type 0 where

@@ -1,7 +1,7 @@
 pub mod Refusals
 pub mod Calls
-pub mod Beyond
-pub mod Ends
+pub mod Continuation
+pub mod Finished
 pub mod States
 pub mod Starts
-pub mod Taking
+pub mod PairResult

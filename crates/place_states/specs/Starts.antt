@@ -5,7 +5,7 @@ use Rattle.definitions.specs.Usage.{Usage, nodes}
 use Rattle.definitions.specs.Table.{Setting}
 use Rattle.definitions.specs.Place.{Result, refused, after, place_by_kind, place}
 use Rattle.layout.specs.declared.table.Table.{Table}
-use Rattle.layout.specs.Places.{Known}
+use Rattle.layout.specs.Located.{Known}
 use Rattle.report.specs.Emitted.{SameBuffer}
 use Rattle.report.specs.declared.Report.{Report}
 use Rattle.place_states.specs.Refusals.{number_of}

@@ -8,14 +8,14 @@ use Rattle.definitions.specs.Place.{Result, refused, done}
 use Rattle.definitions.specs.Sound.{Storable, Ascends}
 use Rattle.definitions.specs.Inner.Pairs.{pairs as apart}
 use Rattle.records.specs.Records.{argument_in}
-use Rattle.links.specs.Standing.{Root, Stands, Row}
-use Rattle.links.specs.Rows.{Down, Up, onto, chain}
-use Rattle.links.specs.Frames.{Kept}
+use Rattle.record_links.specs.Standing.{Root, Stands, Row}
+use Rattle.record_links.specs.Rows.{Down, Up, onto, chain}
+use Rattle.record_links.specs.Frames.{Kept}
 use Rattle.report.specs.Emitted.{Emitted}
 use Rattle.report.specs.declared.Report.{Report}
 use Rattle.place_states.specs.Calls.{Two, Linkable, Ground, Done}
-use Rattle.place_states.specs.Beyond.{Beyond, entries, element, joins, finish, heading, entry_head, resume, act, spare, outer, UpTo, FromOn}
-use Rattle.place_states.specs.Ends.{merged_of}
+use Rattle.place_states.specs.Continuation.{Continuation, entries, element, joins, finish, heading, entry_head, resume, act, spare, outer, UpTo, FromOn}
+use Rattle.place_states.specs.Finished.{merged_of}
 use Rattle.place_states.specs.declared.State.{State}
 use Rattle.place_states.specs.declared.Rule.TheVariants.{Entries as ByEntries, Element as ByElement, Join as ByJoin}
 use Rattle.place_states.specs.declared.Pairing.{Pairing}
@@ -62,13 +62,13 @@ pub record Joins (k : ℕ) (z : Size) (low mid high : Entries) (d : ℕ) (s : Li
   pub high_from : FromOn d high
   pub offset_fits : d ≤ max32
 
-unfoldable pub Outside : ℕ → Beyond → List ℕ → ℕ → State → (ℕ → ℕ) → ℕ → ℕ → ℕ → ℕ → Type 0
+unfoldable pub Outside : ℕ → Continuation → List ℕ → ℕ → State → (ℕ → ℕ) → ℕ → ℕ → ℕ → ℕ → Type 0
 Outside k (entries es) s a st r lo c e hi = Placing k es s st r lo c e hi
 Outside k (element z n) s a st r lo c e hi = Around z n s a st r lo c e hi
 Outside k (joins z low mid high d) s a st r lo c e hi = Joins k z low mid high d s a st r lo c e hi
 
 -- What the pairs so far have come to is record x: the placing gives `finish setting y u w p`.
-pub record Standing (k : ℕ) (y : Beyond) (u : Usage) (w : List ℕ) (p : ℕ) (g : Ground) (s : List ℕ) (rep : Report) (a : ℕ) (st : State) : Type 0 where
+pub record SoFar (k : ℕ) (y : Continuation) (u : Usage) (w : List ℕ) (p : ℕ) (g : Ground) (s : List ℕ) (rep : Report) (a : ℕ) (st : State) : Type 0 where
   pub rank : ℕ → ℕ
   pub kept : Kept g.bytes g.rank s rank g.lo g.hi
   pub c : ℕ
@@ -85,17 +85,17 @@ pub record Standing (k : ℕ) (y : Beyond) (u : Usage) (w : List ℕ) (p : ℕ) 
 
 -- With what stands the goal will be reached; n nodes are all that there are.
 pub record Held (setting : Setting) (goal : Result Usage) (g : Ground) (n : ℕ) (s : List ℕ) (rep : Report) (a : ℕ) (st : State) : Type 0 where
-  pub y : Beyond
+  pub y : Continuation
   pub u : Usage
   pub w : List ℕ
   pub p : ℕ
   pub comes : finish setting y u w p ≡ goal
   pub within : nodes u + outer y ≤ n
-  pub standing : Standing (length setting.table) y u w p g s rep a st
+  pub standing : SoFar (length setting.table) y u w p g s rep a st
 
 -- A pair stands at x and m, and with what is done with it the goal will be reached.
 pub record Pending (how : Pairing) (setting : Setting) (goal : Result Usage) (g : Ground) (n : ℕ) (s : List ℕ) (rep : Report) (a : ℕ) (st : State) : Type 0 where
-  pub y : Beyond
+  pub y : Continuation
   pub o : ℕ
   pub w : List ℕ
   pub p : ℕ
@@ -141,7 +141,7 @@ turns (Pair how) = 2
 -- What the next step of a rule may assume: something stands at x, and what is outside of it.
 pub record Waiting (s : List ℕ) (a : ℕ) (st : State) : Type 0 where
   pub k : ℕ
-  pub y : Beyond
+  pub y : Continuation
   pub u : Usage
   pub rank : ℕ → ℕ
   pub lo : ℕ
@@ -157,6 +157,6 @@ pub record Waiting (s : List ℕ) (a : ℕ) (st : State) : Type 0 where
 -- What it leaves: fewer entries to come, and the goal still ahead.
 pub record Moves (s : List ℕ) (rep : Report) (a : ℕ) (st : State) (s' : List ℕ) (rep' : Report) (st' : State) : Type 0 where
   pub fall : chain 65536 s' st'.rest + 1 ≤ chain 65536 s st.rest + (1 - turns st'.todo)
-  pub next : (setting : Setting) (y : Beyond) (u : Usage) (w : List ℕ) (p : ℕ) (g : Ground) (n : ℕ) → nodes u + outer y ≤ n
-      → Standing (length setting.table) y u w p g s rep a st → Short g.report.at (finish setting y u w p)
+  pub next : (setting : Setting) (y : Continuation) (u : Usage) (w : List ℕ) (p : ℕ) (g : Ground) (n : ℕ) → nodes u + outer y ≤ n
+      → SoFar (length setting.table) y u w p g s rep a st → Short g.report.at (finish setting y u w p)
       → Next setting (finish setting y u w p) g n s' rep' a st'

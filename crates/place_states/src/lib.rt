@@ -3,7 +3,7 @@
 
 ghost use Rattle.std.specs.Prelude.{◌≡◌};
 ghost use Rattle.place_states.specs.Refusals.{number_of};
-ghost use Rattle.place_states.specs.Ends.{finished_state, Unheaded};
+ghost use Rattle.place_states.specs.Finished.{finished_state, Unheaded};
 
 use report::Report;
 

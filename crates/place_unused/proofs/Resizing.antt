@@ -9,16 +9,16 @@ use Rattle.layout.specs.declared.table.Table.{Table}
 use Rattle.qptr.specs.Values.{size_of}
 use Rattle.qptr.specs.declared.MaxSize.{MaxSize}
 use Rattle.records.specs.Records.{command_in, size_in, cell, with_size as sized, Set}
-use Rattle.links.proofs.ByCommand.{IsUnused, is_unused_lem}
-use Rattle.links.proofs.Stands.{stands_le, stands_wide}
-use Rattle.links.proofs.Frames.{kept_set, kept_widen}
-use Rattle.links.proofs.Changes.{stands_resize}
+use Rattle.record_links.proofs.ByCommand.{IsUnused, is_unused_lem}
+use Rattle.record_links.proofs.Stands.{stands_le, stands_wide}
+use Rattle.record_links.proofs.Frames.{kept_set, kept_widen}
+use Rattle.record_links.proofs.Changes.{stands_resize}
 use Rattle.report.proofs.Emitting.{emitted_nothing}
 use Rattle.report.specs.declared.Report.{Report}
 use Rattle.place_states.specs.Calls.{Two, ground}
 use Rattle.place_states.specs.States.{Next, Short}
 use Rattle.place_states.specs.Starts.{Plain, Begins}
-use Rattle.place_states.specs.Ends.{finished_state}
+use Rattle.place_states.specs.Finished.{finished_state}
 use Rattle.place_states.specs.declared.State.{State}
 use Rattle.place_states.proofs.Ending.{next_finished}
 use Rattle.place_states.proofs.Starting.{starts_begins}

@@ -20,7 +20,7 @@ use Rattle.qptr.proofs.Orders.{less_size, less_strict}
 use Rattle.qptr.proofs.Usages.{head_size}
 use Rattle.qptr.specs.declared.Kind.{Kind}
 use Rattle.qptr.specs.declared.Kind.TheVariants.{Unused, StrictlyTyped, DirectAccess, OffsetBase, DynOffsetBase}
-use Rattle.qptr.specs.Values.{size_of, strictness_of, command_of, kind_of, part_by, Stands, Receives}
+use Rattle.qptr.specs.Values.{size_of, strictness_of, command_of, kind_of, part_by, OwnPart, Receives}
 
 -- `first_receives`, of nodes
 abbrev pub node_receives : Node → Node → Bool
@@ -29,7 +29,7 @@ node_receives a b =
     else when size_of a.size <ˢ size_of b.size then false
     else ltb (command_at (command_of b.kind)).strictness (command_at (command_of a.kind)).strictness
 
-module _ (n : Node) (u : Usage) (stands : Stands n u) where
+module _ (n : Node) (u : Usage) (stands : OwnPart n u) where
   same_size : size_of n.size ≡ size u
   same_size = ap (λ (h : Head). h.size) stands ∙ head_size u
 
@@ -72,7 +72,7 @@ entries_of_lem zero = (none, refl)
 entries_of_lem (suc n) = let more = entries_of_lem n in (entry 0 UNUSED more.0, ap suc more.1)
 
 -- the constant of the node type is the definitions' placeholder
-pub unused_stands : Stands Constants.UNUSED UNUSED
+pub unused_stands : OwnPart Constants.UNUSED UNUSED
 unused_stands = refl
 
 -- a kind and its command

@@ -59,9 +59,9 @@ part_by OffsetBase z n = record { command = 0x03; size = z; argument = n }
 part_by DynOffsetBase z n = record { command = 0x04; size = z; argument = n }
 
 -- the usage's own part is this node
-abbrev pub Stands : Node → Usage → Type 0
-Stands n u = part_of n ≡ head_of u
+abbrev pub OwnPart : Node → Usage → Type 0
+OwnPart n u = part_of n ≡ head_of u
 
 -- r says whether the first receives, of any two usages whose own parts are a and b
 pub record Receives (a b : Node) (r : Bool) : Type 0 where
-  pub of : (u v : Usage) → Stands a u → Stands b v → r ≡ first_receives u v
+  pub of : (u v : Usage) → OwnPart a u → OwnPart b v → r ≡ first_receives u v

@@ -4,7 +4,7 @@
 ghost use Rattle.std.specs.Prelude.{◌≡◌, ◌<◌, true, false, Result};
 ghost use Rattle.definitions.specs.Usage.{Usage, unused, leaf, map, array, Entries, count};
 ghost use Rattle.definitions.specs.Command.{command_at};
-ghost use Rattle.qptr.specs.Values.{size_of, row_of, strictness_of, command_of, kind_of, part_of, part_by, NamesKind, Stands, Receives};
+ghost use Rattle.qptr.specs.Values.{size_of, row_of, strictness_of, command_of, kind_of, part_of, part_by, NamesKind, OwnPart, Receives};
 
 // The source's `max_size`: `Some` is Fixed, `None` is Dynamic. In Rust's order Dynamic is the largest.
 #[derive(Clone, Copy, PartialEq, Eq, PartialOrd, Ord)]
@@ -181,7 +181,7 @@ impl Node {
     };
 
     pub fn unused(size: MaxSize) -> Node
-        ensures { Stands result (unused (size_of size)) }
+        ensures { OwnPart result (unused (size_of size)) }
     {
         Node {
             size,
@@ -190,7 +190,7 @@ impl Node {
     }
 
     pub fn strictly_typed(size: MaxSize, ty: u32) -> Node
-        ensures { Stands result (leaf (size_of size) true ty) }
+        ensures { OwnPart result (leaf (size_of size) true ty) }
     {
         Node {
             kind: Kind::StrictlyTyped,
@@ -200,7 +200,7 @@ impl Node {
     }
 
     pub fn direct_access(size: MaxSize, ty: u32) -> Node
-        ensures { Stands result (leaf (size_of size) false ty) }
+        ensures { OwnPart result (leaf (size_of size) false ty) }
     {
         Node {
             kind: Kind::DirectAccess,
@@ -210,7 +210,7 @@ impl Node {
     }
 
     pub fn offset_base(size: MaxSize, entries: u32) -> Node
-        ensures { (es : Entries) → count es ≡ entries → Stands result (map (size_of size) es) }
+        ensures { (es : Entries) → count es ≡ entries → OwnPart result (map (size_of size) es) }
     {
         Node {
             kind: Kind::OffsetBase,
@@ -220,7 +220,7 @@ impl Node {
     }
 
     pub fn dyn_offset_base(size: MaxSize, stride: u32) -> Node
-        ensures { (e : Usage) → Stands result (array (size_of size) stride e) }
+        ensures { (e : Usage) → OwnPart result (array (size_of size) stride e) }
     {
         Node {
             kind: Kind::DynOffsetBase,

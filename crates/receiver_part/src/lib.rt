@@ -12,7 +12,8 @@ pub struct Part<'a> {
 }
 
 // No exported function returns a reference, so the part goes into a place that the caller lends.
-pub fn qptr_receiver_part<'a>(first: &'a [u8], second: &'a [u8], part: &mut Part<'a>)
+#[unsafe(no_mangle)]
+pub extern "C" fn qptr_receiver_part<'a>(first: &'a [u8], second: &'a [u8], part: &mut Part<'a>)
     ensures { part.new.bytes.now ≡ receiver_call first.now second.now }
 {
     part.bytes = calls::receiver(first, second);

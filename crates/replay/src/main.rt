@@ -3,9 +3,9 @@
 #![tactic(auto)]
 
 ghost use Rattle.std.specs.Prelude.{◌≤◌, length, IfSome};
-ghost use Rattle.replaying.specs.Parts.{Single};
+ghost use Rattle.replay_record.specs.Parts.{Single};
 
-use replaying::Counts;
+use replay_record::Counts;
 use std::fs::File;
 use std::io;
 use std::io::{Print, Read};
@@ -41,12 +41,12 @@ fn fetch(file: &mut File, buf: &mut [u8]) -> Option<usize>
     Some(n)
 }
 
-fn turn(file: &mut File) -> Option<Counts>
+fn replay_next(file: &mut File) -> Option<Counts>
     ensures { Single result }
 {
     let mut buf = [0u8; 65536];
     let n = fetch(file, &mut buf)?;
-    replaying::run(&buf[..n])
+    replay_record::run(&buf[..n])
 }
 
 // Has all been read?
@@ -62,7 +62,7 @@ fn replay(file: &mut File) -> Result<Replayed, Broken> {
         different: 0,
     };
     for i in 0..records {
-        let one = turn(file).ok_or(Broken { records: i })?;
+        let one = replay_next(file).ok_or(Broken { records: i })?;
         counts.compared += one.compared;
         counts.different += one.different;
     }

@@ -16,14 +16,14 @@ use Rattle.records.specs.Records.{size_in, offset_in}
 use Rattle.records.specs.Usages.{EntriesAt}
 use Rattle.records.proofs.Usages.{root_of}
 use Rattle.soundness.specs.Own.{follows, following}
-use Rattle.soundness.specs.Standing.{Standing, Row, Counted, Chained}
-use Rattle.soundness.proofs.Rows.{Left, First, first, none_left, first_stands, counted_nodes}
+use Rattle.soundness.specs.Preorder.{UsageFrom, EntriesFrom, Counted, Chained}
+use Rattle.soundness.proofs.Entries.{Left, First, first, none_left, first_stands, counted_nodes}
 
 -- whichever entries stood from record `from` to `to`, some of them are left from record q on, after the place p
 pub record Chaining (s : List ℕ) (from to : ℕ) (y : Size) (q : ℕ) (p : Size) : Type 0 where
   pub of : (es : Entries) → EntriesAt es s from → from + nodes_in es ≡ to → Left s q to (following p y) (following (fixed 0) y es)
 
-pub chaining_stands : (s : List ℕ) (from to : ℕ) (y : Size) (q : ℕ) (p : Size) → Row s from to → Chaining s from to y q p → q < to → Standing s q
+pub chaining_stands : (s : List ℕ) (from to : ℕ) (y : Size) (q : ℕ) (p : Size) → EntriesFrom s from to → Chaining s from to y q p → q < to → UsageFrom s q
 chaining_stands s from to y q p R C lt = first_stands (first (C.of R.entries R.stand R.upto) lt) R.inside R.few
 
 pub chaining_done : (s : List ℕ) (from to : ℕ) (map : MaxSize) (q : ℕ) (place : MaxSize) (r : Bool) → Chaining s from to (size_of map) q (size_of place) → to ≤ q

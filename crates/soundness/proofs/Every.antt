@@ -14,8 +14,8 @@ use Rattle.definitions.proofs.Nodes.{append_nodes}
 use Rattle.records.specs.Usages.{At, EntriesAt}
 use Rattle.records.proofs.Usages.{one_entry, entries_join}
 use Rattle.soundness.specs.Own.{follows, following, fills, own}
-use Rattle.soundness.specs.Standing.{Standing, Counted, Owned, Tested}
-use Rattle.soundness.proofs.Rows.{Left, First, first, none_left, first_stands, counted_nodes}
+use Rattle.soundness.specs.Preorder.{UsageFrom, Counted, Owned, Tested}
+use Rattle.soundness.proofs.Entries.{Left, First, first, none_left, first_stands, counted_nodes}
 
 -- every one of the entries is sound
 abbrev all_sound : Entries → Bool
@@ -70,7 +70,7 @@ every_one s q end C = record {
       record { entries = entry o u none; stand = one_entry o u s q r; upto = omega (arith, counted_nodes u o r C); same = sym (and-true (sound u)) };
 }
 
-pub every_stands : (s : List ℕ) (q end i : ℕ) → Standing s q → Counted s q end → Every s q end i → i < end → Standing s i
+pub every_stands : (s : List ℕ) (q end i : ℕ) → UsageFrom s q → Counted s q end → Every s q end i → i < end → UsageFrom s i
 every_stands s q end i S C E lt = first_stands (first (E.of S.usage S.offset S.stands) lt) C.inside C.few
 
 pub every_done : (s : List ℕ) (q end i : ℕ) → Every s q end i → end ≤ i → Tested s q true

@@ -1,5 +1,5 @@
 pub mod Entry
-pub mod Rows
+pub mod Entries
 pub mod Chaining
 pub mod Owning
 pub mod Every

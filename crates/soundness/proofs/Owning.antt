@@ -21,8 +21,8 @@ use Rattle.records.specs.Records.{command_in, size_in, argument_in}
 use Rattle.records.specs.Usages.{At}
 use Rattle.records.proofs.Usages.{root_of}
 use Rattle.soundness.specs.Own.{following, fills, own}
-use Rattle.soundness.specs.Standing.{Standing, Row, Counted, Chained, Owned}
-use Rattle.soundness.proofs.Rows.{counted_nodes}
+use Rattle.soundness.specs.Preorder.{UsageFrom, EntriesFrom, Counted, Chained, Owned}
+use Rattle.soundness.proofs.Entries.{counted_nodes}
 
 -- a record's kind tells the command of whichever usage stands there
 command_of_root : (s : List ℕ) (q : ℕ) (k : Kind) → k ≡ kind_of (command_in s q) → {other : Kind} → k ≡ other → (u : Usage) (o : ℕ) → At u s q o → (head_of u).command ≡ command_of other
@@ -30,8 +30,8 @@ command_of_root s q k e same u o r = kind_head k u (e ∙ ap kind_of (root_of u 
 
 -- what a map and an array hold stands from the next record on
 
-module _ (s : List ℕ) (q : ℕ) (k : Kind) (kind_is : k ≡ kind_of (command_in s q)) (S : Standing s q) where
-  pub map_row : (end : ℕ) → k ≡ OffsetBase → Counted s q end → Row s (q + 1) end
+module _ (s : List ℕ) (q : ℕ) (k : Kind) (kind_is : k ≡ kind_of (command_in s q)) (S : UsageFrom s q) where
+  pub map_row : (end : ℕ) → k ≡ OffsetBase → Counted s q end → EntriesFrom s (q + 1) end
   unfolding At
   map_row end e C =
       let m = is_map S.usage (command_of_root s q k kind_is e S.usage S.offset S.stands) in

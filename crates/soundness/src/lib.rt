@@ -6,7 +6,7 @@ ghost use Rattle.definitions.specs.Usage.{fixed};
 ghost use Rattle.definitions.specs.Place.{past32, ◌≤ˢ◌};
 ghost use Rattle.qptr.specs.Values.{size_of};
 ghost use Rattle.soundness.specs.Own.{fills, Followed};
-ghost use Rattle.soundness.specs.Standing.{Standing, Row, Counted, Chained, Owned, Tested};
+ghost use Rattle.soundness.specs.Preorder.{UsageFrom, EntriesFrom, Counted, Chained, Owned, Tested};
 
 use qptr::{Kind, MaxSize};
 use records::{argument, kind, max_size, nodes, offset};
@@ -40,7 +40,7 @@ fn follow(place: MaxSize, o: u32, z: MaxSize) -> Option<MaxSize>
 
 // The first record past the usage at record q.
 fn past(s: &[u8], q: usize) -> usize
-    requires { Standing s.now q }
+    requires { UsageFrom s.now q }
     ensures { Counted s.now q result }
 {
     q + nodes(s, q)
@@ -49,7 +49,7 @@ fn past(s: &[u8], q: usize) -> usize
 // Do the entries from record `from` to `to` follow one another, and end by the map's size? From one entry to the next it is as many records as
 // the entry has nodes, so there is no range to count over.
 fn chained(s: &[u8], from: usize, to: usize, map: MaxSize) -> bool
-    requires { Row s.now from to }
+    requires { EntriesFrom s.now from to }
     ensures { Chained s.now from to (size_of map) result }
 {
     let mut q = from;
@@ -67,7 +67,7 @@ fn chained(s: &[u8], from: usize, to: usize, map: MaxSize) -> bool
 // What record q itself must keep. One kind is tested before the match: of a match with an arm for each a compiler makes a jump by a table,
 // which not every processor foresees.
 fn own(s: &[u8], q: usize) -> bool
-    requires { Standing s.now q }
+    requires { UsageFrom s.now q }
     ensures { Owned s.now q result }
 {
     let z = max_size(s, q);
@@ -85,7 +85,7 @@ fn own(s: &[u8], q: usize) -> bool
 
 // Is the usage at record q sound?
 pub fn sound(s: &[u8], q: usize) -> bool
-    requires { Standing s.now q }
+    requires { UsageFrom s.now q }
     ensures { Tested s.now q result }
 {
     let to = past(s, q);

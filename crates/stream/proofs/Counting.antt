@@ -13,7 +13,7 @@ use Rattle.qptr.specs.declared.Node.{Node}
 use Rattle.qptr.specs.Values.{part_of}
 use Rattle.stream.specs.Head.{head, PartAt}
 use Rattle.stream.specs.Found.{type_bound, NodeAt}
-use Rattle.stream.specs.Walk.{level, Sum, sum, owing, pending, Stands, entries_of, own_bound, Owes, Goes}
+use Rattle.stream.specs.Walk.{level, Sum, sum, owing, pending, ToRead, entries_of, own_bound, Owes, Goes}
 use Rattle.stream.specs.Window.{levels, Held, Enters}
 use Rattle.stream.specs.declared.maps.Maps.{Maps}
 use Rattle.stream.specs.declared.walk.Next.TheVariants as nexts
@@ -27,7 +27,7 @@ module _ (s : List ℕ) (from : ℕ) where
   -- the walk from `from` stands at `at`, inside of maps of which the window w has levels: n nodes with types below t are read, and so many
   -- entries are owed
   pub record Counting (w : List ℕ) (at owed : ℕ) (m : Maps) (n t : ℕ) : Type 0 where
-    pub stands : Stands (pending 0 0 [] 0 (drop from s)) s at owed (levels m w) n t
+    pub stands : ToRead (pending 0 0 [] 0 (drop from s)) s at owed (levels m w) n t
     pub held : Held m w
     pub within : at ≤ length s
     pub small : owed ≤ length s

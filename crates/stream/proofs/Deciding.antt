@@ -13,7 +13,7 @@ use Rattle.qptr.specs.declared.Kind.{Kind}
 use Rattle.qptr.specs.declared.Kind.TheVariants.{Unused, StrictlyTyped, DirectAccess, OffsetBase, DynOffsetBase}
 use Rattle.qptr.specs.declared.Node.{Node}
 use Rattle.qptr.specs.Values.{command_of, part_of}
-use Rattle.stream.specs.Head.{Known}
+use Rattle.stream.specs.Head.{Admits}
 use Rattle.stream.specs.Walk.{entries_of, own_bound}
 
 if_not : {A : Type 0} (t : Bool) (x y : A) → (when t then x else y) ≡ (when not t then y else x)
@@ -21,11 +21,11 @@ unfolding when◌then◌else◌
 if_not true x y = refl
 if_not false x y = refl
 
-pub known_array : (n : ℕ) → Known 0x04 n (not (eqb n 0))
+pub known_array : (n : ℕ) → Admits 0x04 n (not (eqb n 0))
 unfolding when◌then◌else◌
 known_array n z rest = if_not (eqb n 0) broken (read (record { command = 0x04; size = z; argument = n }) rest)
 
-pub known_other : (k : Kind) (n : ℕ) → (k ≡ DynOffsetBase → ⊥) → Known (command_of k) n true
+pub known_other : (k : Kind) (n : ℕ) → (k ≡ DynOffsetBase → ⊥) → Admits (command_of k) n true
 unfolding when◌then◌else◌
 known_other Unused n other z rest = refl
 known_other StrictlyTyped n other z rest = refl

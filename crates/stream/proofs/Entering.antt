@@ -11,7 +11,7 @@ use Rattle.definitions.specs.Command.{Head}
 use Rattle.definitions.specs.Stream.{Read, read}
 use Rattle.numbers.specs.Words.{word}
 use Rattle.stream.specs.Head.{head}
-use Rattle.stream.specs.Walk.{Level, level, total, Sum, owing, Stands, entries_of, own_bound, Settles}
+use Rattle.stream.specs.Walk.{Level, level, total, Sum, owing, ToRead, entries_of, own_bound, InOrder}
 use Rattle.stream.specs.Window.{levels, Held, Pushed, Followed, Follows, Lost, Roomy, Entered, Enters}
 use Rattle.stream.specs.declared.maps.Maps.{Maps}
 use Rattle.stream.proofs.Places.{offset_at}
@@ -22,10 +22,10 @@ use Rattle.stream.proofs.Stepping.{step_entries}
 -- A map without entries may stand before the others, or be left out.
 
 module _ {x : Read Sum} {s : List ℕ} {at owed : ℕ} {ls : List Level} {n t : ℕ} (p : ℕ) where
-  pub shut : Stands x s at owed ls n t → Stands x s at owed (level 0 p ∷ ls) n t
+  pub shut : ToRead x s at owed ls n t → ToRead x s at owed (level 0 p ∷ ls) n t
   shut w = record { others = w.others; owes = omega (arith, w.owes); same = w.same ∙ sym (pending_shut n t p ls w.others (drop at s)) }
 
-  unshut : Stands x s at owed (level 0 p ∷ ls) n t → Stands x s at owed ls n t
+  unshut : ToRead x s at owed (level 0 p ∷ ls) n t → ToRead x s at owed ls n t
   unshut w = record { others = w.others; owes = omega (arith, w.owes); same = w.same ∙ pending_shut n t p ls w.others (drop at s) }
 
 -- Room for one more map
@@ -35,8 +35,8 @@ module _ (s : List ℕ) (at : ℕ) (m : Maps) (w : List ℕ) where
   room_pushed {w'} {m'} pushed =
       record { room = pushed.room; empty = pushed.empty; on = λ x owed n t stands. rw (pushed.empty, pushed.same) (shut (suc m'.last) stands) }
 
-  pub room_settled : Settles s at (levels m w) true → {w' : List ℕ} {m' : Maps} → m'.left ≡ 0 → m'.outer ≡ 0 → Roomy s at m w w' m'
-  room_settled settles {w'} {m'} left outer =
+  pub room_in_order : InOrder s at (levels m w) true → {w' : List ℕ} {m' : Maps} → m'.left ≡ 0 → m'.outer ≡ 0 → Roomy s at m w w' m'
+  room_in_order settles {w'} {m'} left outer =
       record {
         room = omega arith;
         empty = left;
@@ -54,7 +54,7 @@ module _ (s : List ℕ) (at : ℕ) (m : Maps) (w : List ℕ) where
 
 module _ (s : List ℕ) (at : ℕ) (h : Head) (end : ℕ) (part : head (drop at s) ≡ read h (drop end s)) (other : h.command ≡ 0x04 → ⊥)
     (long : end + 4 ≤ length s) {o : ℕ} (offset : o ≡ word s end) where
-  module _ {x : Read Sum} {owed owing' n t : ℕ} {ls : List Level} (more : entries_of h + owed ≡ suc owing') (stands : Stands x s at owed ls n t) where
+  module _ {x : Read Sum} {owed owing' n t : ℕ} {ls : List Level} (more : entries_of h + owed ≡ suc owing') (stands : ToRead x s at owed ls n t) where
     abbrev bound : ℕ
     bound = max t (own_bound h)
 
@@ -62,7 +62,7 @@ module _ (s : List ℕ) (at : ℕ) (h : Head) (end : ℕ) (part : head (drop at 
     opened e = rw (← e) (stands.same ∙ step_entries n t ls stands.others (drop at s) h part other)
 
     -- a map was opened
-    first : {c : ℕ} → entries_of h ≡ suc c → Stands x s (end + 4) owing' (level c (suc o) ∷ ls) (n + 1) bound
+    first : {c : ℕ} → entries_of h ≡ suc c → ToRead x s (end + 4) owing' (level c (suc o) ∷ ls) (n + 1) bound
     first {c} e =
         record {
           others = stands.others;
@@ -74,7 +74,7 @@ module _ (s : List ℕ) (at : ℕ) (h : Head) (end : ℕ) (part : head (drop at 
     closed : entries_of h ≡ 0 → x ≡ owing (n + 1) bound ls stands.others (drop end s)
     closed e = opened e ∙ owing_shut (n + 1) bound 0 ls stands.others (drop end s)
 
-    followed : entries_of h ≡ 0 → {ls' : List Level} → Followed ls o ls' → Stands x s (end + 4) owing' ls' (n + 1) bound
+    followed : entries_of h ≡ 0 → {ls' : List Level} → Followed ls o ls' → ToRead x s (end + 4) owing' ls' (n + 1) bound
     followed e follows =
         record {
           others = stands.others;
@@ -83,8 +83,8 @@ module _ (s : List ℕ) (at : ℕ) (h : Head) (end : ℕ) (part : head (drop at 
         }
 
   -- no map is kept
-  outside : {x : Read Sum} {owed owing' n t : ℕ} → entries_of h + owed ≡ suc owing' → Stands x s at owed [] n t → entries_of h ≡ 0
-      → Stands x s (end + 4) owing' [] (n + 1) (max t (own_bound h))
+  outside : {x : Read Sum} {owed owing' n t : ℕ} → entries_of h + owed ≡ suc owing' → ToRead x s at owed [] n t → entries_of h ≡ 0
+      → ToRead x s (end + 4) owing' [] (n + 1) (max t (own_bound h))
   outside {owing'} {n} {t} more stands e =
       let one : stands.others ≡ suc owing' = omega (arith, stands.owes) in
       record {

@@ -7,7 +7,7 @@ pub mod Each
 pub mod Owing
 pub mod Stepping
 pub mod Skipping
-pub mod Settling
+pub mod Ordered
 pub mod Keeping
 pub mod Following
 pub mod Entering

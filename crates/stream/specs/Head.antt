@@ -18,8 +18,8 @@ own c s n rest =
     else read (record { command = c; size = s; argument = n }) rest
 
 -- r says whether a node has such a command and argument
-abbrev pub Known : ℕ → ℕ → Bool → Type 0
-Known c n r = (z : Size) (rest : List ℕ) → own c z n rest ≡ (when r then read (record { command = c; size = z; argument = n }) rest else broken)
+abbrev pub Admits : ℕ → ℕ → Bool → Type 0
+Admits c n r = (z : Size) (rest : List ℕ) → own c z n rest ≡ (when r then read (record { command = c; size = z; argument = n }) rest else broken)
 
 -- the own part that the bytes begin with
 unfoldable pub head : List ℕ → Read Head

@@ -37,7 +37,7 @@ unfoldable pub pending : ℕ → ℕ → List Level → ℕ → List ℕ → Rea
 pending n t ls k bs = read_node bs then λ u rest. owing (n + nodes u) (max t (type_bound u)) ls k rest
 
 -- what is still to be read at `at` gives x; all entries that are to come are owed
-pub record Stands (x : Read Sum) (s : List ℕ) (at owed : ℕ) (ls : List Level) (n t : ℕ) : Type 0 where
+pub record ToRead (x : Read Sum) (s : List ℕ) (at owed : ℕ) (ls : List Level) (n t : ℕ) : Type 0 where
   pub others : ℕ
   pub owes : owed ≡ total ls + others
   pub same : x ≡ pending n t ls others (drop at s)
@@ -70,6 +70,6 @@ Skips s at (Some end) = (end ≤ length s) × ((u : Usage) (rest : List ℕ) →
 Skips s at None = (u : Usage) (rest : List ℕ) → read_node (drop at s) ≡ read u rest → ⊥
 
 -- r says whether the entries left of open maps, behind the node at a place of s, are in order: then they may as well come in any
-abbrev pub Settles : List ℕ → ℕ → List Level → Bool → Type 0
-Settles s at ls true = (n t k : ℕ) → pending n t ls k (drop at s) ≡ pending n t [] (total ls + k) (drop at s)
-Settles s at ls false = (n t k : ℕ) → pending n t ls k (drop at s) ≡ broken
+abbrev pub InOrder : List ℕ → ℕ → List Level → Bool → Type 0
+InOrder s at ls true = (n t k : ℕ) → pending n t ls k (drop at s) ≡ pending n t [] (total ls + k) (drop at s)
+InOrder s at ls false = (n t k : ℕ) → pending n t ls k (drop at s) ≡ broken

@@ -4,7 +4,7 @@ use Rattle.std.specs.Prelude.{ℕ, zero, suc, max, ◌+◌, ◌*◌, ◌≤◌, 
 use Rattle.definitions.specs.Command.{Head}
 use Rattle.definitions.specs.Stream.{Read, broken, read, number}
 use Rattle.numbers.specs.Words.{number_at, word}
-use Rattle.stream.specs.Walk.{Level, level, total, Sum, owing, pending, Stands, entries_of, own_bound}
+use Rattle.stream.specs.Walk.{Level, level, total, Sum, owing, pending, ToRead, entries_of, own_bound}
 use Rattle.stream.specs.declared.maps.Maps.{Maps}
 
 -- the lowest d levels of a window, the uppermost first: each has an entry left
@@ -46,13 +46,13 @@ Follows m o w None = (n t k : ℕ) (bs rest : List ℕ) → number 4 bs ≡ read
 
 -- where the walk stands among maps ls, nothing is to be read
 abbrev pub Lost : List ℕ → ℕ → List Level → Type 0
-Lost s at ls = (x : Read Sum) (owed n t : ℕ) → Stands x s at owed ls n t → x ≡ broken
+Lost s at ls = (x : Read Sum) (owed n t : ℕ) → ToRead x s at owed ls n t → x ≡ broken
 
 -- room for one more map at `at`, which a map without entries keeps free
 pub record Roomy (s : List ℕ) (at : ℕ) (m : Maps) (w w' : List ℕ) (m' : Maps) : Type 0 where
   pub room : m'.outer * 6 ≤ length w'
   pub empty : m'.left ≡ 0
-  pub on : (x : Read Sum) (owed n t : ℕ) → Stands x s at owed (levels m w) n t → Stands x s at owed (levels m' w') n t
+  pub on : (x : Read Sum) (owed n t : ℕ) → ToRead x s at owed (levels m w) n t → ToRead x s at owed (levels m' w') n t
 
 -- the same, or that the order of the open maps is broken
 abbrev pub Makes : List ℕ → ℕ → Maps → List ℕ → List ℕ → Option Maps → Type 0
@@ -62,11 +62,11 @@ Makes s at m w w' None = Lost s at (levels m w)
 -- the walk goes on from an own part h at `at` that ends at `end`, to the node of the next entry
 pub record Entered (s : List ℕ) (at : ℕ) (h : Head) (end : ℕ) (m : Maps) (w w' : List ℕ) (m' : Maps) : Type 0 where
   pub held : Held m' w'
-  pub on : (x : Read Sum) (owed owing n t : ℕ) → entries_of h + owed ≡ suc owing → Stands x s at owed (levels m w) n t
-      → Stands x s (end + 4) owing (levels m' w') (n + 1) (max t (own_bound h))
+  pub on : (x : Read Sum) (owed owing n t : ℕ) → entries_of h + owed ≡ suc owing → ToRead x s at owed (levels m w) n t
+      → ToRead x s (end + 4) owing (levels m' w') (n + 1) (max t (own_bound h))
 
 -- the same, or that the order of the open maps is broken
 abbrev pub Enters : List ℕ → ℕ → Head → ℕ → Maps → List ℕ → List ℕ → Option Maps → Type 0
 Enters s at h end m w w' (Some m') = Entered s at h end m w w' m'
 Enters s at h end m w w' None = (x : Read Sum) (owed owing n t : ℕ) → entries_of h + owed ≡ suc owing
-    → Stands x s at owed (levels m w) n t → x ≡ broken
+    → ToRead x s at owed (levels m w) n t → x ≡ broken

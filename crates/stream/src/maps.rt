@@ -2,7 +2,7 @@
 ghost use Rattle.std.specs.Prelude.{◌≡◌, ◌+◌, ◌*◌, ◌≤◌, length};
 ghost use Rattle.qptr.specs.Values.{part_of, command_of};
 ghost use Rattle.stream.specs.Head.{PartAt};
-ghost use Rattle.stream.specs.Walk.{Settles};
+ghost use Rattle.stream.specs.Walk.{InOrder};
 ghost use Rattle.stream.specs.Window.{levels, Held, Pushed, Popped, Follows, Makes, Enters};
 
 use crate::walk::{entries, skip};
@@ -82,9 +82,9 @@ impl Maps {
 
 // Whether the offsets of all these maps ascend, from the node at `from` on to the end of the outermost. What lies further in is stepped
 // over. Where it is not a node, the answer does not matter.
-fn settled(s: &[u8], from: usize, maps: Maps, window: &[u8]) -> bool
+fn in_order(s: &[u8], from: usize, maps: Maps, window: &[u8]) -> bool
     requires { Held maps window.now × (from ≤ length s.now) }
-    ensures { Settles s.now from (levels maps window.now) result }
+    ensures { InOrder s.now from (levels maps window.now) result }
 {
     let mut at = from;
     let mut around = maps;
@@ -116,7 +116,7 @@ fn room(s: &[u8], at: usize, maps: Maps, window: &mut [u8]) -> Option<Maps>
     if LEVEL <= window.len() - maps.outer * LEVEL {
         return Some(maps.push(window));
     }
-    if settled(s, at, maps, window) {
+    if in_order(s, at, maps, window) {
         return Some(Maps::NONE);
     }
     None

@@ -2,7 +2,7 @@
 ghost use Rattle.std.specs.Prelude.{◌≡◌, ◌+◌, ◌-◌, ◌≤◌, ◌<◌, length, get_or};
 ghost use Rattle.qptr.specs.Values.{command_of};
 ghost use Rattle.numbers.specs.Words.{Width};
-ghost use Rattle.stream.specs.Head.{Known, SizeShows, Shows, Outlines};
+ghost use Rattle.stream.specs.Head.{Admits, SizeShows, Shows, Outlines};
 
 use numbers::number;
 use qptr::{Command, Kind, MaxSize, Node};
@@ -78,8 +78,8 @@ pub(super) fn outline(s: &[u8], at: usize) -> Option<HeaderAt>
 }
 
 // Whether a node of this kind may have such an argument: a stride is not 0.
-fn known(kind: Kind, argument: u32) -> bool
-    ensures { Known (command_of kind) argument result }
+fn admits(kind: Kind, argument: u32) -> bool
+    ensures { Admits (command_of kind) argument result }
 {
     match kind {
         Kind::DynOffsetBase => argument != 0,
@@ -96,7 +96,7 @@ pub(super) fn sized(s: &[u8], at: usize, outline: Option<HeaderAt>) -> Option<He
     let kind = node.kind;
     let argument = node.argument;
     let size = size(s, at + 1, Command::of(kind.command()).size)?;
-    if !known(kind, argument) {
+    if !admits(kind, argument) {
         return None;
     }
     Some(HeaderAt {

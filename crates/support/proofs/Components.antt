@@ -13,13 +13,13 @@ use Rattle.definitions.specs.Table.{Setting, Components as Parts, concrete, layo
 use Rattle.definitions.specs.Containment.{end_of}
 use Rattle.definitions.specs.Support.{any_of, component_supports, supports}
 use Rattle.records.specs.Records.{size_in}
-use Rattle.layout.specs.Places.{Known}
+use Rattle.layout.specs.Located.{Known}
 use Rattle.layout.specs.Containing.{containing_from, Next, Finds}
 use Rattle.layout.specs.declared.containment.Component.{Component}
 use Rattle.layout.specs.declared.table.Table.{Table}
 use Rattle.layout.proofs.Uses.{component_below, from_start}
-use Rattle.support.specs.Answers.{OfEach, InLayout, Supports, ComponentSupports}
-use Rattle.support_memory.proofs.Roots.{size_is}
+use Rattle.support.specs.Supported.{OfEach, InLayout, Supports, ComponentSupports}
+use Rattle.support_cache.proofs.Roots.{size_is}
 
 -- what all of them say is what those from index `from` on say, of a range up to `end`
 pub record AskedFrom (table : Table) (ty at : ℕ) (s : List ℕ) (q end from : ℕ) : Type 0 where

@@ -8,9 +8,9 @@ use borrow.Author.Tests.{eq-eqb, ne_eqb}
 use Rattle.definitions.specs.Usage.{Size, Usage, array}
 use Rattle.definitions.specs.Support.{same_length}
 use Rattle.records.specs.Records.{size_in, argument_in, child_in}
-use Rattle.links.specs.Standing.{Stands}
-use Rattle.support.specs.Answers.{Supports, ElementsSupported}
-use Rattle.support_memory.proofs.Roots.{size_is}
+use Rattle.record_links.specs.Standing.{Stands}
+use Rattle.support.specs.Supported.{Supports, ElementsSupported}
+use Rattle.support_cache.proofs.Roots.{size_is}
 use Rattle.layout.specs.declared.table.Array.{Array}
 use Rattle.layout.specs.declared.table.Table.{Table}
 

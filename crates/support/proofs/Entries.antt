@@ -8,11 +8,11 @@ use mathlib.Core.List.{List}
 use Rattle.definitions.specs.Usage.{Size, map, Entries}
 use Rattle.definitions.specs.Support.{entries_supported, supports}
 use Rattle.records.specs.Records.{child_in, next_in}
-use Rattle.links.specs.Standing.{Stands, Row}
-use Rattle.links.proofs.Rows.{Head, head, end_0}
-use Rattle.support_memory.proofs.Linked.{Linked, entry_usage}
-use Rattle.support.specs.Known.{ConcreteAskable}
-use Rattle.support.specs.Answers.{InLayout, EntrySupported, EntriesSupported}
+use Rattle.record_links.specs.Standing.{Stands, Row}
+use Rattle.record_links.proofs.Rows.{Head, head, end_0}
+use Rattle.support_cache.proofs.Linked.{Linked, entry_usage}
+use Rattle.support.specs.Askable.{ConcreteAskable}
+use Rattle.support.specs.Supported.{InLayout, EntrySupported, EntriesSupported}
 use Rattle.layout.specs.declared.table.Table.{Table}
 
 -- what is said of all entries is said of those that are left

@@ -14,8 +14,8 @@ use Rattle.qptr.specs.Values.{command_of, kind_of}
 use Rattle.qptr.specs.declared.Kind.{Kind}
 use Rattle.qptr.specs.declared.Kind.TheVariants.{Unused, StrictlyTyped, DirectAccess, OffsetBase, DynOffsetBase}
 use Rattle.records.specs.Records.{command_in}
-use Rattle.links.specs.Standing.{Stands}
-use Rattle.layout.specs.Places.{Known}
+use Rattle.record_links.specs.Standing.{Stands}
+use Rattle.layout.specs.Located.{Known}
 use Rattle.layout.specs.Values.{parts_of}
 use Rattle.layout.specs.declared.table.Components.{Components}
 use Rattle.layout.specs.declared.table.Components.TheVariants.{Scalar, Elements, Fields}
@@ -23,9 +23,9 @@ use Rattle.layout.specs.declared.table.Array.{Array}
 use Rattle.layout.specs.declared.table.FieldList.{FieldList}
 use Rattle.layout.specs.declared.table.Table.{Table}
 use Rattle.layout.proofs.Finding.{some_stride, element_below}
-use Rattle.support.specs.Known.{Askable, ComponentsOf}
-use Rattle.support.specs.Answers.{EntriesSupported, ElementsSupported, ItselfSupports}
-use Rattle.support_memory.proofs.Roots.{by_kind, on_map, on_array, command_of_kind}
+use Rattle.support.specs.Askable.{Askable, ComponentsOf}
+use Rattle.support.specs.Supported.{EntriesSupported, ElementsSupported, ItselfSupports}
+use Rattle.support_cache.proofs.Roots.{by_kind, on_map, on_array, command_of_kind}
 use Rattle.support.proofs.Types.{type_in, layout_is}
 
 module _ {table : Table} {ty at : ℕ} {s : List ℕ} {q : ℕ} {k : Kind} (x : k ≡ kind_of (command_in s q)) where

@@ -8,9 +8,9 @@ use Rattle.qptr.specs.Values.{command_of, kind_of}
 use Rattle.qptr.specs.declared.Kind.{Kind}
 use Rattle.qptr.specs.declared.Kind.TheVariants.{Unused, StrictlyTyped, DirectAccess, OffsetBase, DynOffsetBase}
 use Rattle.records.specs.Records.{command_in, argument_in}
-use Rattle.links.specs.Standing.{Stands}
-use Rattle.support.specs.Answers.{WholeLeaf}
-use Rattle.support_memory.proofs.Roots.{by_kind, command_of_kind}
+use Rattle.record_links.specs.Standing.{Stands}
+use Rattle.support.specs.Supported.{WholeLeaf}
+use Rattle.support_cache.proofs.Roots.{by_kind, command_of_kind}
 
 module _ (u : Usage) (s : List ℕ) (q : ℕ) (r : ℕ → ℕ) (lo hi : ℕ) (a : Stands u s q r lo hi) where
   pub unused_is : command_in s q ≡ 0 → is_unused u ≡ true

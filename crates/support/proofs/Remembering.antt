@@ -10,14 +10,14 @@ use native.Mathlib.Decide.{ℕ_discrete}
 use lib.ListN.{length}
 use Rattle.definitions.proofs.Earlier.{accepted}
 use Rattle.records.specs.Records.{Marked}
-use Rattle.support_memory.specs.Nodes.{Unchanged, Child, Below}
-use Rattle.support_memory.specs.Memory.{tag_of, Marks, Recollects, Remembers}
-use Rattle.support_memory.specs.declared.Answer.{Answer}
-use Rattle.support_memory.proofs.Marking.{one_tag}
-use Rattle.support_memory.proofs.Staying.{unchanged_none, unchanged_both, unchanged_marked, below_back}
-use Rattle.support.specs.Known.{TypeKnown}
-use Rattle.support.specs.Answers.{Supports}
-use Rattle.support.specs.Memory.{Recalls, Listed, Memory, Kept}
+use Rattle.support_cache.specs.Nodes.{Unchanged, Child, Below}
+use Rattle.support_cache.specs.Cached.{tag_of, Marks, Recollects, Remembers}
+use Rattle.support_cache.specs.declared.CachedAnswer.{CachedAnswer}
+use Rattle.support_cache.proofs.Marking.{one_tag}
+use Rattle.support_cache.proofs.Staying.{unchanged_none, unchanged_both, unchanged_marked, below_back}
+use Rattle.support.specs.Askable.{TypeKnown}
+use Rattle.support.specs.Supported.{Supports}
+use Rattle.support.specs.Cache.{Recalls, Listed, CacheTrue, Kept}
 use Rattle.support.proofs.Staying.{supports_after}
 use Rattle.layout.specs.declared.table.Table.{Table}
 
@@ -26,40 +26,40 @@ pub type_few : {table : Table} {ty : ℕ} → TypeKnown table ty → ty < 1024
 type_few {table} w = omega (arith, w.below, (accepted table.bytes.now w.setting.table w.known.read).few)
 
 -- what the turns of a loop have left
-pub record Turned (table : Table) (s s' : List ℕ) (d d' : List Answer) : Type 0 where
+pub record Turned (table : Table) (s s' : List ℕ) (d d' : List CachedAnswer) : Type 0 where
   pub kept : Kept table s s' d d'
   pub wide : length d' ≡ length d
 
 module _ {table : Table} where
-  pub kept_none : {s : List ℕ} {d : List Answer} → Kept table s s d d
+  pub kept_none : {s : List ℕ} {d : List CachedAnswer} → Kept table s s d d
   kept_none = record { records = unchanged_none; nodes = λ i h. h; list = λ h. h }
 
-  pub kept_both : {s s₁ s₂ : List ℕ} {d d₁ d₂ : List Answer} → Kept table s s₁ d d₁ → Kept table s₁ s₂ d₁ d₂ → Kept table s s₂ d d₂
+  pub kept_both : {s s₁ s₂ : List ℕ} {d d₁ d₂ : List CachedAnswer} → Kept table s s₁ d d₁ → Kept table s₁ s₂ d₁ d₂ → Kept table s s₂ d d₂
   kept_both A B = record {
     records = unchanged_both A.records B.records;
     nodes = λ i h. B.nodes i (A.nodes i h);
     list = λ h. B.list (A.list h);
   }
 
-  pub memory_after : {s s' : List ℕ} {d d' : List Answer} {q : ℕ} → Kept table s s' d d' → Memory table s q d → Memory table s' q d'
+  pub memory_after : {s s' : List ℕ} {d d' : List CachedAnswer} {q : ℕ} → Kept table s s' d d' → CacheTrue table s q d → CacheTrue table s' q d'
   memory_after K M = record {
     nodes = λ i h. K.nodes i (M.nodes i (below_back K.records h));
     list = K.list M.list;
   }
 
-  pub turned_none : {s : List ℕ} {d : List Answer} → Turned table s s d d
+  pub turned_none : {s : List ℕ} {d : List CachedAnswer} → Turned table s s d d
   turned_none = record { kept = kept_none; wide = refl }
 
-  pub turned_more : {s s₁ s₂ : List ℕ} {d d₁ d₂ : List Answer} → Turned table s s₁ d d₁ → Kept table s₁ s₂ d₁ d₂ → length d₂ ≡ length d₁ → Turned table s s₂ d d₂
+  pub turned_more : {s s₁ s₂ : List ℕ} {d d₁ d₂ : List CachedAnswer} → Turned table s s₁ d d₁ → Kept table s₁ s₂ d₁ d₂ → length d₂ ≡ length d₁ → Turned table s s₂ d d₂
   turned_more T K w = record { kept = kept_both T.kept K; wide = w ∙ T.wide }
 
   -- of an element or an entry
-  pub memory_part : {s : List ℕ} {d : List Answer} {q e : ℕ} → Child s q e → Memory table s q d → Memory table s e d
+  pub memory_part : {s : List ℕ} {d : List CachedAnswer} {q e : ℕ} → Child s q e → CacheTrue table s q d → CacheTrue table s e d
   memory_part {q = q} {e = e} c M = record { nodes = λ i h. M.nodes i (Below.inside q e i c h); list = M.list }
 
   -- what is recalled
 
-  module _ {s : List ℕ} {q : ℕ} {d : List Answer} {ty at : ℕ} {b : Bool} (M : Memory table s q d) where
+  module _ {s : List ℕ} {q : ℕ} {d : List CachedAnswer} {ty at : ℕ} {b : Bool} (M : CacheTrue table s q d) where
     marked_answer : Marks ty at s q b → Supports table ty at s q b
     marked_answer m = rw m.past at ((M.nodes q (Below.itself q)).is ty b m.tag)
 
@@ -68,7 +68,7 @@ module _ {table : Table} where
 
   -- what is remembered anew
 
-  module _ {ty at : ℕ} {s s' : List ℕ} {q : ℕ} {d d' : List Answer} {b : Bool} (R : Remembers ty at s s' q d d' b) (long : length s' ≡ length s) (g : Supports table ty at s q b) where
+  module _ {ty at : ℕ} {s s' : List ℕ} {q : ℕ} {d d' : List CachedAnswer} {b : Bool} (R : Remembers ty at s s' q d d' b) (long : length s' ≡ length s) (g : Supports table ty at s q b) where
     W : Marked s s' q (tag_of ty b) at
     W = R.node
 

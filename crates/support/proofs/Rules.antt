@@ -11,9 +11,9 @@ use Rattle.definitions.specs.Usage.{Size, Usage, size}
 use Rattle.definitions.specs.Table.{Setting, TypeLayout as Layout, concrete, handle, failed, layout_of, is_concrete}
 use Rattle.definitions.specs.Support.{Asking, outside, component_supports, itself, support_rules, supports}
 use Rattle.records.specs.Records.{command_in, size_in}
-use Rattle.links.specs.Standing.{Stands}
+use Rattle.record_links.specs.Standing.{Stands}
 use Rattle.layout.specs.Values.{parts_of, layout_in}
-use Rattle.layout.specs.Places.{Known, LayoutIs}
+use Rattle.layout.specs.Located.{Known, LayoutIs}
 use Rattle.layout.specs.declared.table.Components.{Components}
 use Rattle.layout.specs.declared.table.TypeLayout.{TypeLayout}
 use Rattle.layout.specs.declared.table.TypeLayout.TheVariants.{Concrete, Handle, Failed}
@@ -23,12 +23,12 @@ use Rattle.qptr.specs.declared.Kind.TheVariants.{Unused}
 use Rattle.qptr.specs.contracts.Kind.{the_type}
 use denote.Enum.Bare.{sameb, same_true, same_false}
 use Rattle.std.proofs.Common.{rules}
-use Rattle.support.specs.Known.{Askable}
+use Rattle.support.specs.Askable.{Askable}
 use Rattle.layout.specs.declared.table.Table.{Table}
 use Rattle.std.proofs.lemmas.Bool.{both_ways}
-use Rattle.support.specs.Answers.{WholeLeaf, Supports, ComponentSupports, ItselfSupports}
-use Rattle.support.specs.Memory.{LeftOpen}
-use Rattle.support_memory.proofs.Roots.{size_is, command_is}
+use Rattle.support.specs.Supported.{WholeLeaf, Supports, ComponentSupports, ItselfSupports}
+use Rattle.support.specs.Cache.{LeftOpen}
+use Rattle.support_cache.proofs.Roots.{size_is, command_is}
 use Rattle.support.proofs.Leaves.{unused_is, used-is}
 use Rattle.support.proofs.Types.{one_step, layout_is, components_of}
 

@@ -11,10 +11,10 @@ use Rattle.definitions.specs.Stream.{bytes}
 use Rattle.definitions.specs.Table.{Setting, concrete, scalar, elements, table_of}
 use Rattle.definitions.specs.Support.{supports, supports_in}
 use Rattle.numbers.specs.Words.{number_at}
-use Rattle.links.specs.Standing.{Stands}
-use Rattle.layout.specs.Places.{Placed}
+use Rattle.record_links.specs.Standing.{Stands}
+use Rattle.layout.specs.Located.{Located}
 use Rattle.layout.specs.declared.table.Table.{Table}
-use Rattle.support.specs.Known.{Askable}
+use Rattle.support.specs.Askable.{Askable}
 
 -- type 0 is a scalar of 4 bytes, and type 1 four of them in a row
 
@@ -27,7 +27,7 @@ second = 0x21 ∷ bytes 4 16 ++ bytes 4 0 ++ bytes 4 4 ++ bytes 4 0 ++ bytes 4 4
 table : Table
 table = record {
   bytes = record { ref_ptr = (0, 0); now = bytes 2 2 ++ first ++ second };
-  places = record { ref_ptr = (0, 0); now = 2 ∷ 11 ∷ [] };
+  starts = record { ref_ptr = (0, 0); now = 2 ∷ 11 ∷ [] };
 }
 
 setting : Setting
@@ -40,7 +40,7 @@ asked = leaf (fixed 4) true 0
 records_with_it : List ℕ
 records_with_it = bytes 32 0 ++ bytes 2 1 ++ bytes 2 1 ++ bytes 4 0 ++ bytes 4 1 ++ bytes 4 4 ++ bytes 4 0 ++ bytes 4 0 ++ bytes 8 0
 
-stands : (ty : ℕ) → ty < 2 → Placed table setting.table ty
+stands : (ty : ℕ) → ty < 2 → Located table setting.table ty
 unfolding table setting first second when◌then◌else◌
 stands zero l = record { kept = omega arith; rest = second; stands = refl; admits = refl }
 stands (suc zero) l = record { kept = omega arith; rest = []; stands = refl; admits = refl }

@@ -6,11 +6,11 @@ use mathlib.Core.Path.{sym, ◌∙◌}
 use mathlib.Core.Bool.{Bool}
 use mathlib.Core.List.{List}
 use Rattle.std.specs.Prelude.{Result}
-use Rattle.support_memory.specs.Nodes.{Unchanged}
-use Rattle.support_memory.proofs.Staying.{there, back, command_stays, offset_stays, usage_after}
-use Rattle.support.specs.Known.{Askable, ConcreteAskable}
-use Rattle.support.specs.Answers.{Supports, EntrySupported, ItselfSupports, Answers}
-use Rattle.support.specs.Memory.{LeftOpen}
+use Rattle.support_cache.specs.Nodes.{Unchanged}
+use Rattle.support_cache.proofs.Staying.{there, back, command_stays, offset_stays, usage_after}
+use Rattle.support.specs.Askable.{Askable, ConcreteAskable}
+use Rattle.support.specs.Supported.{Supports, EntrySupported, ItselfSupports, Asked}
+use Rattle.support.specs.Cache.{LeftOpen}
 use Rattle.support.specs.declared.NotAsked.{NotAsked}
 use Rattle.layout.specs.declared.table.Table.{Table}
 
@@ -28,7 +28,7 @@ module _ {s s' : List ℕ} (U : Unchanged s s') where
     pub itself_before : {r : Bool} → ItselfSupports table ty at s' q r → ItselfSupports table ty at s q r
     itself_before g = record { is = λ st k b n d cs l u r lo hi a. g.is st k b n d cs l u r lo hi (there U u q r lo hi a) }
 
-    pub answers_before : {r : Result Bool NotAsked} → Answers table ty at s' q r → Answers table ty at s q r
+    pub answers_before : {r : Result Bool NotAsked} → Asked table ty at s' q r → Asked table ty at s q r
     answers_before g = record { is = λ st k b u r lo hi a. g.is st k b u r lo hi (there U u q r lo hi a) }
 
     pub open_after : LeftOpen table ty at s q → LeftOpen table ty at s' q

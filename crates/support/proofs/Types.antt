@@ -11,12 +11,12 @@ use Rattle.definitions.specs.Support.{support_rules, supports}
 use Rattle.definitions.proofs.Earlier.{accepted}
 use Rattle.definitions.proofs.Support.{supports_is}
 use Rattle.layout.specs.Values.{parts_of, layout_in}
-use Rattle.layout.specs.Places.{Known, InTable, LayoutIs}
+use Rattle.layout.specs.Located.{Known, InTable, LayoutIs}
 use Rattle.layout.specs.declared.table.Components.{Components}
 use Rattle.layout.specs.declared.table.TypeLayout.{TypeLayout}
 use Rattle.layout.specs.declared.table.TypeLayout.TheVariants.{Concrete}
 use Rattle.layout.specs.declared.table.Table.{Table}
-use Rattle.support.specs.Known.{TypeKnown, Askable, ConcreteAskable, ComponentsOf}
+use Rattle.support.specs.Askable.{TypeKnown, Askable, ConcreteAskable, ComponentsOf}
 
 module _ {table : Table} where
   pub type_in : {ty : ℕ} → TypeKnown table ty → InTable table ty

@@ -5,9 +5,9 @@ use mathlib.Core.Path.{◌≡◌, refl}
 use mathlib.Core.Bool.{Bool, true, false}
 use mathlib.Core.List.{List}
 use Rattle.std.proofs.lemmas.Bool.{both_ways}
-use Rattle.support.specs.Known.{Askable, ConcreteAskable}
-use Rattle.support.specs.Answers.{Supports, ComponentSupports, ItselfSupports, Says}
-use Rattle.support.specs.Memory.{LeftOpen}
+use Rattle.support.specs.Askable.{Askable, ConcreteAskable}
+use Rattle.support.specs.Supported.{Supports, ComponentSupports, ItselfSupports, Says}
+use Rattle.support.specs.Cache.{LeftOpen}
 use Rattle.support.proofs.Types.{asks_concrete}
 use Rattle.support.proofs.Rules.{part_supported, itself_asked}
 use Rattle.layout.specs.declared.table.Table.{Table}

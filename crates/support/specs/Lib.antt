@@ -1,3 +1,3 @@
-pub mod Known
-pub mod Answers
-pub mod Memory
+pub mod Askable
+pub mod Supported
+pub mod Cache

@@ -2,9 +2,9 @@
 ghost use Rattle.std.specs.Prelude.{◌≡◌, ◌&&◌, ◌+◌, ◌*◌, ◌≤◌, eqb, length, MatchOption};
 ghost use Rattle.definitions.specs.Support.{outside};
 ghost use Rattle.qptr.specs.Values.{size_of};
-ghost use Rattle.support.specs.Known.{Askable};
-ghost use Rattle.support.specs.Answers.{WholeLeaf, Supports};
-ghost use Rattle.support.specs.Memory.{LeftOpen};
+ghost use Rattle.support.specs.Askable.{Askable};
+ghost use Rattle.support.specs.Supported.{WholeLeaf, Supports};
+ghost use Rattle.support.specs.Cache.{LeftOpen};
 
 use layout::{Table, TypeLayout, end_of};
 use qptr::{Kind, MaxSize};

@@ -2,15 +2,15 @@
 #![tactic(auto)]
 
 ghost use Rattle.std.specs.Prelude.{◌≡◌, ◌≤◌};
-ghost use Rattle.support_memory.specs.Nodes.{Unchanged, Blank};
-ghost use Rattle.support.specs.Known.{Askable};
-ghost use Rattle.support.specs.Answers.{Supports, Answers};
-ghost use Rattle.support.specs.Memory.{LeftOpen};
+ghost use Rattle.support_cache.specs.Nodes.{Unchanged, Blank};
+ghost use Rattle.support.specs.Askable.{Askable};
+ghost use Rattle.support.specs.Supported.{Supports, Asked};
+ghost use Rattle.support.specs.Cache.{LeftOpen};
 
 use at_once::first_tests;
 use layout::{Table, TypeLayout};
 use questions::supports_or_recalls;
-use support_memory::{Answer, LONG, SHORT, Seen, forget};
+use support_cache::{CachedAnswer, LARGE, SMALL, Seen, forget};
 
 mod at_once;
 mod questions;
@@ -23,15 +23,15 @@ fn supports_with<const N: usize>(
     s: &mut [u8],
     q: usize,
 ) -> bool
-    requires few { N ≤ LONG }
+    requires few { N ≤ LARGE }
     requires askable { Askable table.now ty s.old q }
     requires blank { Blank s.old q }
     requires left_open { LeftOpen table.now ty at s.old q }
     ensures supports { Supports table.now ty at s.old q result }
     ensures unchanged { Unchanged s.old s.new }
 {
-    let mut answers = [Answer::NONE; N];
-    supports_or_recalls(table, ty, at, s, q, &mut answers, true)
+    let mut cached = [CachedAnswer::NONE; N];
+    supports_or_recalls(table, ty, at, s, q, &mut cached, true)
 }
 
 // With a list as long as what was seen asks for: none if no question comes back in turns, a short one if it has some places for each node
@@ -47,9 +47,9 @@ fn supports_blank(table: &Table<'_>, ty: u32, at: u32, s: &mut [u8], q: usize, s
         return supports_with::<0>(table, ty, at, s, q);
     }
     if seen.nodes <= 8 && ty < 8 {
-        return supports_with::<SHORT>(table, ty, at, s, q);
+        return supports_with::<SMALL>(table, ty, at, s, q);
     }
-    supports_with::<LONG>(table, ty, at, s, q)
+    supports_with::<LARGE>(table, ty, at, s, q)
 }
 
 // Does the type support the usage at record q, at this offset? What its nodes remember of other questions is forgotten first.
@@ -77,7 +77,7 @@ pub enum NotAsked {
 // The answer of a type.
 pub fn ask(table: &Table<'_>, ty: u32, at: u32, s: &mut [u8], q: usize) -> Result<bool, NotAsked>
     requires { Askable table.now ty s.old q }
-    ensures answers { Answers table.now ty at s.old q result }
+    ensures answers { Asked table.now ty at s.old q result }
     ensures unchanged { Unchanged s.old s.new }
 {
     match table.layout_of(ty) {

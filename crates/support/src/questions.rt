@@ -3,16 +3,16 @@ ghost use Rattle.std.specs.Prelude.{◌≡◌, true, false, ◌+◌, ◌*◌, �
 ghost use Rattle.definitions.specs.Support.{same_length};
 ghost use Rattle.qptr.specs.Values.{size_of};
 ghost use Rattle.records.specs.Records.{command_in};
-ghost use Rattle.support_memory.specs.Memory.{Recollects};
-ghost use Rattle.support.specs.Known.{ConcreteType, Askable, ConcreteAskable, ComponentsOf};
-ghost use Rattle.support.specs.Answers.{Supports, ComponentSupports, EntrySupported, EntriesSupported, ElementsSupported, ItselfSupports, Says};
-ghost use Rattle.support.specs.Memory.{Memory, Kept, LeftOpen};
+ghost use Rattle.support_cache.specs.Cached.{Recollects};
+ghost use Rattle.support.specs.Askable.{ConcreteType, Askable, ConcreteAskable, ComponentsOf};
+ghost use Rattle.support.specs.Supported.{Supports, ComponentSupports, EntrySupported, EntriesSupported, ElementsSupported, ItselfSupports, Says};
+ghost use Rattle.support.specs.Cache.{CacheTrue, Kept, LeftOpen};
 
 use crate::at_once::first_tests;
 use layout::{Array, Components, Table, TypeLayout, end_of};
 use qptr::{Kind, MaxSize};
 use records::{argument, child, kind, max_size, next, offset};
-use support_memory::{Answer, recall, remember};
+use support_cache::{CachedAnswer, recall, remember};
 
 // A question is of a type at an offset, about the usage at record q, or of the type's components alone where it is not `whole`. Each question
 // that another leads to has another type and offset, or another record, so a struct of them would be built anew at each call. `whole` is a flag
@@ -26,17 +26,17 @@ fn any_component_supports(
     at: u32,
     s: &mut [u8],
     q: usize,
-    answers: &mut [Answer],
+    cached: &mut [CachedAnswer],
 ) -> bool
     requires concrete_askable { ConcreteAskable table.now ty s.old q }
-    requires memory { Memory table.now s.old q answers.old }
+    requires cache_true { CacheTrue table.now s.old q cached.old }
     ensures component_supports { ComponentSupports table.now ty at s.old q result }
-    ensures kept { Kept table.now s.old s.new answers.old answers.new }
+    ensures kept { Kept table.now s.old s.new cached.old cached.new }
 {
     let end = end_of(at, max_size(s, q));
     let mut from = 0;
     while let Some(component) = table.find_components_containing(ty, from, at, end) {
-        if supports_inside(table, component.ty, component.rest, s, q, answers, true) {
+        if supports_inside(table, component.ty, component.rest, s, q, cached, true) {
             return true;
         }
         from = component.next;
@@ -53,17 +53,17 @@ fn entries_supported(
     at: u32,
     s: &mut [u8],
     q: usize,
-    answers: &mut [Answer],
+    cached: &mut [CachedAnswer],
 ) -> bool
     requires concrete_askable { ConcreteAskable table.now ty s.old q }
-    requires memory { Memory table.now s.old q answers.old }
+    requires cache_true { CacheTrue table.now s.old q cached.old }
     requires q_value { command_in s.old q ≡ 3 }
     ensures entries_supported { EntriesSupported table.now ty at s.old q result }
-    ensures kept { Kept table.now s.old s.new answers.old answers.new }
+    ensures kept { Kept table.now s.old s.new cached.old cached.new }
 {
     let mut e = child(s, q);
     while e != 0 {
-        if !entry_supported(table, ty, at, s, e, answers) {
+        if !entry_supported(table, ty, at, s, e, cached) {
             return false;
         }
         e = next(s, e);
@@ -79,17 +79,17 @@ fn entry_supported(
     at: u32,
     s: &mut [u8],
     e: usize,
-    answers: &mut [Answer],
+    cached: &mut [CachedAnswer],
 ) -> bool
     requires concrete_askable { ConcreteAskable table.now ty s.old e }
-    requires memory { Memory table.now s.old e answers.old }
+    requires cache_true { CacheTrue table.now s.old e cached.old }
     ensures entry_supported { EntrySupported table.now ty at s.old e result }
-    ensures kept { Kept table.now s.old s.new answers.old answers.new }
+    ensures kept { Kept table.now s.old s.new cached.old cached.new }
 {
     let Some(sum) = at.checked_add(offset(s, e)) else {
         return false;
     };
-    supports_inside(table, ty, sum, s, e, answers, sum == 0)
+    supports_inside(table, ty, sum, s, e, cached, sum == 0)
 }
 
 // The array's size against the layout's length (0 = none): dynamic with no length, or whole elements up to the length.
@@ -115,13 +115,13 @@ fn elements_supported(
     at: u32,
     s: &mut [u8],
     q: usize,
-    answers: &mut [Answer],
+    cached: &mut [CachedAnswer],
 ) -> bool
     requires askable { Askable table.now array.elem s.old q }
-    requires memory { Memory table.now s.old q answers.old }
+    requires cache_true { CacheTrue table.now s.old q cached.old }
     requires stride_nonzero { (0 < array.stride) × (command_in s.old q ≡ 4) }
     ensures elements_supported { ElementsSupported table.now array at s.old q result }
-    ensures kept { Kept table.now s.old s.new answers.old answers.new }
+    ensures kept { Kept table.now s.old s.new cached.old cached.new }
 {
     let stride = array.stride;
     if stride != argument(s, q) {
@@ -134,7 +134,7 @@ fn elements_supported(
         return false;
     }
     let e = child(s, q);
-    supports_inside(table, array.elem, 0, s, e, answers, true)
+    supports_inside(table, array.elem, 0, s, e, cached, true)
 }
 
 // The components of a concrete layout.
@@ -156,20 +156,20 @@ fn itself_supports(
     at: u32,
     s: &mut [u8],
     q: usize,
-    answers: &mut [Answer],
+    cached: &mut [CachedAnswer],
 ) -> bool
     requires concrete_askable { ConcreteAskable table.now ty s.old q }
-    requires memory { Memory table.now s.old q answers.old }
+    requires cache_true { CacheTrue table.now s.old q cached.old }
     requires fact { command_in s.old q ≡ 0 → ⊥ }
     ensures itself_supports { ItselfSupports table.now ty at s.old q result }
-    ensures kept { Kept table.now s.old s.new answers.old answers.new }
+    ensures kept { Kept table.now s.old s.new cached.old cached.new }
 {
     match kind(s, q) {
         Kind::Unused | Kind::StrictlyTyped | Kind::DirectAccess => false,
-        Kind::OffsetBase => entries_supported(table, ty, at, s, q, answers),
+        Kind::OffsetBase => entries_supported(table, ty, at, s, q, cached),
         Kind::DynOffsetBase => match components_of(table, ty) {
             Components::Scalar | Components::Fields(_) => false,
-            Components::Elements(array) => elements_supported(table, array, at, s, q, answers),
+            Components::Elements(array) => elements_supported(table, array, at, s, q, cached),
         },
     }
 }
@@ -182,17 +182,17 @@ fn supports_past_tests(
     at: u32,
     s: &mut [u8],
     q: usize,
-    answers: &mut [Answer],
+    cached: &mut [CachedAnswer],
     whole: bool,
 ) -> bool
     requires concrete_askable { ConcreteAskable table.now ty s.old q }
-    requires memory { Memory table.now s.old q answers.old }
+    requires cache_true { CacheTrue table.now s.old q cached.old }
     requires left_open { whole ≡ true → LeftOpen table.now ty at s.old q }
     ensures says { Says table.now ty at s.old q whole result }
-    ensures kept { Kept table.now s.old s.new answers.old answers.new }
+    ensures kept { Kept table.now s.old s.new cached.old cached.new }
 {
-    any_component_supports(table, ty, at, s, q, answers)
-        || whole && itself_supports(table, ty, at, s, q, answers)
+    any_component_supports(table, ty, at, s, q, cached)
+        || whole && itself_supports(table, ty, at, s, q, cached)
 }
 
 // Answers of the whole layout are remembered, those of its components alone are not.
@@ -201,14 +201,14 @@ fn recall_whole(
     at: u32,
     s: &[u8],
     q: usize,
-    answers: &[Answer],
+    cached: &[CachedAnswer],
     whole: bool,
 ) -> Option<bool>
     requires { (ty < 1024) × (q < 65536) × (q * 32 + 32 ≤ length s.now) }
-    ensures { IfSome result (λ yes. (whole ≡ true) × Recollects ty at s.now q answers.now yes) }
+    ensures { IfSome result (λ yes. (whole ≡ true) × Recollects ty at s.now q cached.now yes) }
 {
     if whole {
-        recall(ty, at, s, q, answers)
+        recall(ty, at, s, q, cached)
     } else {
         None
     }
@@ -223,23 +223,23 @@ pub(super) fn supports_or_recalls(
     at: u32,
     s: &mut [u8],
     q: usize,
-    answers: &mut [Answer],
+    cached: &mut [CachedAnswer],
     whole: bool,
 ) -> bool
     requires concrete_askable { ConcreteAskable table.now ty s.old q }
-    requires memory { Memory table.now s.old q answers.old }
+    requires cache_true { CacheTrue table.now s.old q cached.old }
     requires left_open { whole ≡ true → LeftOpen table.now ty at s.old q }
     ensures says { Says table.now ty at s.old q whole result }
-    ensures kept { Kept table.now s.old s.new answers.old answers.new }
+    ensures kept { Kept table.now s.old s.new cached.old cached.new }
 {
-    if let Some(yes) = recall_whole(ty, at, s, q, answers, whole) {
+    if let Some(yes) = recall_whole(ty, at, s, q, cached, whole) {
         return yes;
     }
-    let yes = supports_past_tests(table, ty, at, s, q, answers, whole);
+    let yes = supports_past_tests(table, ty, at, s, q, cached, whole);
     if !whole {
         return yes;
     }
-    remember(ty, at, s, q, answers, yes);
+    remember(ty, at, s, q, cached, yes);
     yes
 }
 
@@ -263,17 +263,17 @@ fn supports_inside(
     at: u32,
     s: &mut [u8],
     q: usize,
-    answers: &mut [Answer],
+    cached: &mut [CachedAnswer],
     whole: bool,
 ) -> bool
     requires askable { Askable table.now ty s.old q }
-    requires memory { Memory table.now s.old q answers.old }
+    requires cache_true { CacheTrue table.now s.old q cached.old }
     requires concrete_askable { whole ≡ false → ConcreteAskable table.now ty s.old q }
     ensures says { Says table.now ty at s.old q whole result }
-    ensures kept { Kept table.now s.old s.new answers.old answers.new }
+    ensures kept { Kept table.now s.old s.new cached.old cached.new }
 {
     match test_whole(table, ty, at, s, q, whole) {
         Some(yes) => yes,
-        None => supports_or_recalls(table, ty, at, s, q, answers, whole),
+        None => supports_or_recalls(table, ty, at, s, q, cached, whole),
     }
 }

@@ -1,6 +1,6 @@
 -- Both call on fewer nodes, or merging on the same: the measure counts the nodes of both sides twice, and merging once more. The loop keeps its goal ahead.
 use Rattle.std.proofs.Common.{◌+◌, ◌*◌}
-use Rattle.links.specs.Rows.{chain, nodes_at}
+use Rattle.record_links.specs.Rows.{chain, nodes_at}
 use Rattle.place_states.specs.States.{turns}
 use Rattle.analyze.proofs.Loop.{Loop}
 use Rattle.analyze.proofs.+merging.Given as goal

@@ -6,8 +6,8 @@ use Rattle.layout.proofs.accept.Goals as goal
 pub returns-then-s-lt2 : goal.returns-then-s-lt2
 returns-then-s-lt2 c = refuses (search (no_count, rules))
 
-pub returns-then-count-gt-RECORDS : goal.returns-then-count-gt-RECORDS
-returns-then-count-gt-RECORDS c = refuses (search (many_records, rules))
+pub returns-then-count-gt-MAX_RECORDS : goal.returns-then-count-gt-MAX_RECORDS
+returns-then-count-gt-MAX_RECORDS c = refuses (search (many_records, rules))
 
 pub loop-n-init : goal.loop-n-init
 loop-n-init c = search (first_record, rules)

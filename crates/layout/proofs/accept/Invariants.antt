@@ -3,4 +3,4 @@ use Rattle.layout.proofs.Acceptance.{Reading}
 use Rattle.layout.proofs.accept.Given as goal
 
 abbrev pub invariant-loop-n : goal.invariant-loop-n
-invariant-loop-n l = Reading l.s l.places l.count l.at l.n
+invariant-loop-n l = Reading l.s l.starts l.count l.at l.n

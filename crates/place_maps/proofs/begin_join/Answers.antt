@@ -15,8 +15,8 @@ returns-in_err-found c =
     let none = not_found c.overlapping.result Past32 c.ok_or.ensures.value c.in_err-found.was in
     search (refused_entry, rules)
 
-pub turn-rest-requires : goal.turn-rest-requires
-turn-rest-requires c =
+pub reverse-rest-requires : goal.reverse-rest-requires
+reverse-rest-requires c =
     let some = is_found c.overlapping.result Past32 c.ok_or.ensures.value c.in_ok-found.was in
     search (run_of, rules)
 

@@ -6,4 +6,4 @@ use Rattle.place_maps.proofs.end_join.Goals as goal
 pub returns : goal.returns
 returns c =
     ends _ _ _ _ _ _ _ _ _ c.requires.rule_value c.requires.rest_value (search rules) (search rules) c.passed-above.ensures c.put_offset.ensures c.put_next.ensures
-    c.enter.ensures c.drop_heading.ensures c.finished.ensures
+    c.insert.ensures c.drop_heading.ensures c.finished.ensures

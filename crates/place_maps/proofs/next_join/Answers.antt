@@ -1,7 +1,7 @@
 -- `place_maps::next_join` meets its contract. Each return has its law; what leads to it is what the callees and the tests say.
 use borrow.Author.Rules.{rules}
 use Rattle.place_maps.proofs.Stepping.{within, rest_in, x_in}
-use Rattle.place_maps.proofs.Turns.{lower_straddles, lower_receives, upper_straddles, upper_receives, equal_merges}
+use Rattle.place_maps.proofs.NextJoins.{lower_straddles, lower_receives, upper_straddles, upper_receives, equal_merges}
 use Rattle.place_maps.proofs.next_join.Goals as goal
 use Rattle.place_maps.proofs.next_join.Goals.{in_default-via-in-Less+else-b_end-entry_end, in_default-via-in-Greater+else-entry_end-b_end}
 

@@ -3,8 +3,8 @@ use borrow.Author.Rules.{rules}
 use Rattle.place_maps.proofs.Ending.{fallen, straddled}
 use Rattle.place_maps.proofs.straddle.Goals as goal
 
-pub turn-head-requires : goal.turn-head-requires
-turn-head-requires c = search (fallen, rules)
+pub reverse-head-requires : goal.reverse-head-requires
+reverse-head-requires c = search (fallen, rules)
 
 pub returns : goal.returns
 returns c = search (straddled, rules)

@@ -1,6 +1,6 @@
 -- `place_search::any_past` meets its contract. The loop's invariant: none of the entries before p ends past 32 bits. The measure is what is
 -- linked from p on.
-use Rattle.links.specs.Rows.{chain}
+use Rattle.record_links.specs.Rows.{chain}
 use Rattle.place_search.proofs.Pasts.{Passing}
 use Rattle.place_search.proofs.any_past.Given as goal
 

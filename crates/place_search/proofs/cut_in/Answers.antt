@@ -2,7 +2,7 @@
 use Rattle.std.proofs.Common.{arith}
 use Rattle.std.proofs.lemmas.List.{length-replicate}
 use Rattle.place_search.proofs.Filling.{fill_start, fill_within, fill_inside, fill_small, fill_more, cuts}
-use Rattle.place_search.proofs.Tops.{top_front}
+use Rattle.place_search.proofs.LastEnding.{top_front}
 use borrow.Author.Rules.{rules}
 use Rattle.place_search.proofs.cut_in.Goals as goal
 

@@ -1,5 +1,5 @@
 -- `place_search::skip` meets its contract, which is the loop's invariant. The measure is what is linked from the next entry on.
-use Rattle.links.specs.Rows.{chain}
+use Rattle.record_links.specs.Rows.{chain}
 use Rattle.place_search.specs.Seeking.{Skips}
 use Rattle.place_search.proofs.skip.Given as goal
 

@@ -1,5 +1,5 @@
 -- `soundness::own` meets its contract. Each answer is that of the usages of the record's kind.
-use Rattle.soundness.proofs.Rows.{room}
+use Rattle.soundness.proofs.Entries.{room}
 use Rattle.soundness.proofs.Owning.{map_row, array_room, own_unused, own_empty, own_map, own_array, own_leaf}
 use borrow.Author.Rules.{rules}
 use Rattle.soundness.proofs.own.Goals as goal

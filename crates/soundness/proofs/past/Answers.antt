@@ -1,5 +1,5 @@
 -- `soundness::past` meets its contract. The record counts the usage's nodes.
-use Rattle.soundness.proofs.Rows.{room, counted}
+use Rattle.soundness.proofs.Entries.{room, counted}
 use Rattle.soundness.proofs.past.Goals as goal
 
 pub nodes-requires : goal.nodes-requires

@@ -23,12 +23,12 @@ size-requires c =
     let width = width_is (goal.at.size-requires c).After-of in
     (rw width (size_width_lem _), omega (arith, width, here.taken, here.within))
 
-pub returns-then-not-known : goal.returns-then-not-known
+pub returns-then-not-admits : goal.returns-then-not-admits
 unfolding when◌then◌else◌
-returns-then-not-known c =
-    let here = outline_is (goal.at.returns-then-not-known c).In_ok-node in
-    let width = width_is (goal.at.returns-then-not-known c).After-of in
-    rw (here.reads, ← width, c.in_ok-size.ensures) (c.known.ensures _ _ ∙ rw c.if-not-known.true)
+returns-then-not-admits c =
+    let here = outline_is (goal.at.returns-then-not-admits c).In_ok-node in
+    let width = width_is (goal.at.returns-then-not-admits c).After-of in
+    rw (here.reads, ← width, c.in_ok-size.ensures) (c.admits.ensures _ _ ∙ rw c.if-not-admits.true)
 
 pub returns : goal.returns
 unfolding when◌then◌else◌
@@ -38,7 +38,7 @@ returns c =
     record {
       reads =
           node_reads _ c.in_ok-node.field-0.node.kind
-          (rw (here.reads, ← width, c.in_ok-size.ensures) (c.known.ensures _ _ ∙ rw c.if-not-known.false))
+          (rw (here.reads, ← width, c.in_ok-size.ensures) (c.admits.ensures _ _ ∙ rw c.if-not-admits.false))
           c.new.result c.new.ensures;
       taken = omega (arith, here.taken);
       within = here.within;

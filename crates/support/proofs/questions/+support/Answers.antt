@@ -5,9 +5,9 @@ use borrow.Author.Tests.{not-false}
 use mathlib.Core.Path.{◌∙◌}
 use native.Mathlib.Omega.{arith}
 use Rattle.layout.proofs.Uses.{component_below}
-use Rattle.support_memory.specs.Nodes.{Child}
-use Rattle.support_memory.proofs.Staying.{unchanged_both, next_stays}
-use Rattle.support_memory.proofs.Linked.{nodes_stay, element_usage, element_smaller, first_linked, next_linked, chain_falls, entry_usage, entry_smaller, entry_child}
+use Rattle.support_cache.specs.Nodes.{Child}
+use Rattle.support_cache.proofs.Staying.{unchanged_both, next_stays}
+use Rattle.support_cache.proofs.Linked.{nodes_stay, element_usage, element_smaller, first_linked, next_linked, chain_falls, entry_usage, entry_smaller, entry_child}
 use Rattle.support.proofs.Types.{asks_earlier}
 use Rattle.support.proofs.Components.{asked_first, one_asked, more_asked}
 use Rattle.support.proofs.Entries.{walk_starts, walk_goes_on, walk_stops, walk_ends, asks_entry}
@@ -25,7 +25,7 @@ pub any_component_supports-supports_inside-requires : goal.any_component_support
 any_component_supports-supports_inside-requires t c =
     let T = c.loop-component.invariant.turned in
     let l = component_below c.find_components_containing.ensures c.in-Some.is in
-    (omega (arith, nodes_stay T.kept.records c.requires.concrete_askable.asks.usage), (asks_after T.kept.records (asks_earlier c.requires.concrete_askable.asks l), (memory_after T.kept c.requires.memory, not_parts)))
+    (omega (arith, nodes_stay T.kept.records c.requires.concrete_askable.asks.usage), (asks_after T.kept.records (asks_earlier c.requires.concrete_askable.asks l), (memory_after T.kept c.requires.cache_true, not_parts)))
 
 pub any_component_supports-returns-then-supports_inside-clause-component_supports : goal.any_component_supports-returns-then-supports_inside-clause-component_supports
 any_component_supports-returns-then-supports_inside-clause-component_supports t c =
@@ -50,7 +50,7 @@ pub elements_supported-supports_inside-requires : goal.elements_supported-suppor
 elements_supported-supports_inside-requires t c =
     let w = c.requires.askable.usage in
     let k = c.requires.stride_nonzero.1 in
-    let x = c.child-e.ensures in (omega (arith, element_smaller k w x), (record { type = c.requires.askable.type; usage = element_usage k w x }, (memory_part (Child.element k c.child-e.ensures.0) c.requires.memory, not_parts)))
+    let x = c.child-e.ensures in (omega (arith, element_smaller k w x), (record { type = c.requires.askable.type; usage = element_usage k w x }, (memory_part (Child.element k c.child-e.ensures.0) c.requires.cache_true, not_parts)))
 
 pub elements_supported-returns-clause-elements_supported : goal.elements_supported-returns-clause-elements_supported
 elements_supported-returns-clause-elements_supported t c = search (by_element, whole_says, not-false, rules)
@@ -64,7 +64,7 @@ entries_supported-entry_supported-requires t c =
     let K = I.turned.kept in
     let ne = c.loop-e-test.true in (
       omega (arith, nodes_stay K.records (entry_usage I.linked ne), entry_smaller I.linked ne),
-      (concrete_after K.records (asks_entry I.linked ne c.requires.concrete_askable), memory_after K (memory_part (entry_child I.linked ne c.requires.q_value) c.requires.memory)),
+      (concrete_after K.records (asks_entry I.linked ne c.requires.concrete_askable), memory_after K (memory_part (entry_child I.linked ne c.requires.q_value) c.requires.cache_true)),
     )
 
 pub entries_supported-returns-then-not-entry_supported-clause-entries_supported : goal.entries_supported-returns-then-not-entry_supported-clause-entries_supported
@@ -114,7 +114,7 @@ itself_supports-returns-in-Elements-clause-itself_supports t c = search (by_elem
 pub supports_inside-supports_or_recalls-requires : goal.supports_inside-supports_or_recalls-requires
 supports_inside-supports_or_recalls-requires t c =
     let left = c.in-None.ensures in
-    (omega arith, (asks_either _ c.requires.askable left c.requires.concrete_askable, (c.requires.memory, left)))
+    (omega arith, (asks_either _ c.requires.askable left c.requires.concrete_askable, (c.requires.cache_true, left)))
 
 pub supports_or_recalls-recall_whole-requires : goal.supports_or_recalls-recall_whole-requires
 supports_or_recalls-recall_whole-requires t c =
@@ -124,7 +124,7 @@ supports_or_recalls-recall_whole-requires t c =
 pub supports_or_recalls-returns-in-Some-clause-says : goal.supports_or_recalls-returns-in-Some-clause-says
 supports_or_recalls-returns-in-Some-clause-says t c =
     let told = c.in-Some.ensures in
-    says_whole told.0 (recalled c.requires.memory (type_few c.requires.concrete_askable.asks.type) told.1)
+    says_whole told.0 (recalled c.requires.cache_true (type_few c.requires.concrete_askable.asks.type) told.1)
 
 pub supports_or_recalls-remember-requires : goal.supports_or_recalls-remember-requires
 supports_or_recalls-remember-requires t c =
@@ -140,7 +140,7 @@ pub supports_past_tests-itself_supports-requires : goal.supports_past_tests-itse
 supports_past_tests-itself_supports-requires t c =
     let K = c.any_component_supports.ensures.kept in
     let left = open_after K.records (c.requires.left_open c.if-whole.true) in
-    (omega (arith, nodes_stay K.records c.requires.concrete_askable.asks.usage), (concrete_after K.records c.requires.concrete_askable, (memory_after K c.requires.memory, left.used)))
+    (omega (arith, nodes_stay K.records c.requires.concrete_askable.asks.usage), (concrete_after K.records c.requires.concrete_askable, (memory_after K c.requires.cache_true, left.used)))
 
 pub supports_past_tests-returns-then-any_component_supports-clause-says : goal.supports_past_tests-returns-then-any_component_supports-clause-says
 supports_past_tests-returns-then-any_component_supports-clause-says t c =

@@ -1,8 +1,8 @@
 -- Each step of support takes an earlier type or a smaller usage: the measure is the type and the nodes of the usage, and the
 -- functions that hand both on come in the order of their calls. What is remembered stays true on the way.
 use Prim.Native.Nat.{◌+◌, ◌-◌}
-use Rattle.links.specs.Rows.{chain}
-use Rattle.support_memory.proofs.Linked.{Linked}
+use Rattle.record_links.specs.Rows.{chain}
+use Rattle.support_cache.proofs.Linked.{Linked}
 use Rattle.support.proofs.Components.{AskedFrom}
 use Rattle.support.proofs.Entries.{Walked}
 use Rattle.support.proofs.Remembering.{Turned}
@@ -36,7 +36,7 @@ decreases-supports_past_tests l = together l.ty l.s.now l.q + 2
 abbrev pub invariant-any_component_supports-loop-component : goal.invariant-any_component_supports-loop-component
 invariant-any_component_supports-loop-component l = record {
   asked : AskedFrom l.table l.ty l.at l.initial.s l.q l.end l.from;
-  turned : Turned l.table l.initial.s l.s l.initial.answers l.answers;
+  turned : Turned l.table l.initial.s l.s l.initial.cached l.cached;
 }
 
 abbrev pub decreases-any_component_supports-loop-component : goal.decreases-any_component_supports-loop-component
@@ -46,7 +46,7 @@ abbrev pub invariant-entries_supported-loop-e : goal.invariant-entries_supported
 invariant-entries_supported-loop-e l = record {
   linked : Linked l.initial.s l.q l.e;
   walked : Walked l.table l.ty l.at l.initial.s l.q l.e;
-  turned : Turned l.table l.initial.s l.s l.initial.answers l.answers;
+  turned : Turned l.table l.initial.s l.s l.initial.cached l.cached;
 }
 
 abbrev pub decreases-entries_supported-loop-e : goal.decreases-entries_supported-loop-e

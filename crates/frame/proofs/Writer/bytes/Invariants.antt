@@ -1,6 +1,0 @@
-use lib.ListN.{take}
-use Rattle.frame.specs.Put.{Put}
-use Rattle.frame.proofs.Writer.bytes.Given as goal
-
-abbrev pub invariant-loop-b : goal.invariant-loop-b
-invariant-loop-b l = Put l.initial.self (take l.b-index l.s) l.self

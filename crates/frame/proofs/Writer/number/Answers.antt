@@ -1,7 +1,0 @@
--- `Writer::number` meets its contract: the space stands behind the digits.
-use Rattle.std.proofs.Common.{◌∙◌, arith}
-use Rattle.frame.proofs.Showing.{put_number}
-use Rattle.frame.proofs.Writer.number.Goals as goal
-
-pub returns : goal.returns
-returns c = put_number _ _ _ c.args.n _ (c.as_bytes.ensures.value ∙ c.format.ensures.text) (omega arith) c.bytes.ensures c.byte.ensures

@@ -1,9 +1,0 @@
--- `printed` meets its contract: the blocks that were found are merged.
-use Rattle.frame.proofs.Printing.{not_framed, is_framed}
-use Rattle.frame.proofs.printed.Goals as goal
-
-pub returns-in-Some : goal.returns-in-Some
-returns-in-Some c = is_framed _ _ c.in-Some.ensures c.merged.ensures
-
-pub returns-in-None : goal.returns-in-None
-returns-in-None c = not_framed _ c.in-None.ensures c.broken.ensures

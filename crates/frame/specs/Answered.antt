@@ -1,9 +1,0 @@
--- What a merge has written.
--- Assumes nothing.
-use Rattle.std.specs.Prelude.{ℕ, List}
-use Rattle.definitions.specs.Calls.{Written}
-use Rattle.answers.specs.Answers.{answer_of}
-use Rattle.answers.specs.declared.Answer.{Answer}
-
-abbrev pub written : Answer → List ℕ → List ℕ → Written
-written a output report = record { answer = answer_of a; output = output; report = report }

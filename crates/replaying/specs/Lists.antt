@@ -1,8 +1,0 @@
--- A record as the lists that its slices show.
--- Assumes nothing.
-use Rattle.frame.specs.Parts.{blocks_in}
-use Rattle.replaying.specs.Parts.{Recorded}
-use Rattle.replaying.specs.declared.Record.{Record}
-
-abbrev pub lists : Record → Recorded
-lists r = record { head = r.head.now; parts = blocks_in r.parts; tail = r.tail.now }

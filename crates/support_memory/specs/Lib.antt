@@ -1,2 +1,0 @@
-pub mod Nodes
-pub mod Memory
