@@ -17,6 +17,7 @@ use Rattle.record_links.proofs.Stands.{stands_le, stands_still}
 use Rattle.report.specs.Emitted.{Emitted, TakenBack}
 use Rattle.report.specs.declared.Report.{Report}
 use Rattle.report.proofs.Emitting.{emitted_after, emitted_back, emitted_same, kept_both, kept_emitted}
+use Rattle.place_states.proofs.Starting.{ready_two}
 use Rattle.place_states.specs.Calls.{Two, Ready, NoWrap, Ground, ground, Answered, Done, merging, Placed}
 use Rattle.place_states.specs.declared.SizeRefusal.{SizeRefusal}
 use Rattle.place_states.specs.declared.Merged.{Merged}
@@ -25,7 +26,7 @@ use Rattle.stream.specs.declared.Span.{Span}
 use Rattle.stream_load.specs.Loading.{by_number}
 use Rattle.call_fold.specs.Folding.{NodeReady, NodeLoaded, Beside, NextReady, of_next, NextDone, NextFolded}
 use Rattle.call_fold.specs.declared.Folded.{Folded}
-use Rattle.call_inputs.proofs.Lending.{ready_two, near_two}
+use Rattle.call_inputs.proofs.Lending.{near_two}
 
 -- The report of one node
 

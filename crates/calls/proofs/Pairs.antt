@@ -28,6 +28,7 @@ use Rattle.report.specs.Emitted.{SameBuffer}
 use Rattle.report.specs.declared.Report.{Report}
 use Rattle.call_inputs.specs.declared.Nodes.{Nodes}
 use Rattle.stream_load.specs.Loading.{by_number}
+use Rattle.place_states.proofs.Starting.{ready_two}
 use Rattle.place_states.specs.Calls.{Two, Ready, NoWrap, Placed, ground, placing, merging}
 use Rattle.place_states.specs.declared.SizeRefusal.{SizeRefusal}
 use Rattle.place_states.specs.declared.Merged.{Merged}
@@ -36,7 +37,7 @@ use Rattle.call_answers.specs.Writing.{Gives, Reached, Reachable, Finished}
 use Rattle.call_answers.specs.declared.Refusal.{Refusal}
 use Rattle.call_answers.specs.declared.Written.{Written}
 use Rattle.call_inputs.proofs.Types.{types_in_lem}
-use Rattle.call_inputs.proofs.Lending.{ready_two, near_two}
+use Rattle.call_inputs.proofs.Lending.{near_two}
 use Rattle.place_states.proofs.Answering.{done_kept}
 use Rattle.call_answers.proofs.Reaching.{FewIn, reached}
 use Rattle.calls.specs.Loaded.{Usable, Pair, PairReady, PairGiven}

@@ -47,7 +47,7 @@ module _ (n t : ℕ) (ls : List Level) (k : ℕ) where
   own_step (suc (suc zero)) z m bs own = sym (owing_shut (n + 1) (max t (suc m)) 0 ls k bs)
   own_step (suc (suc (suc zero))) z m bs own = map_step z m bs
   own_step (suc (suc (suc (suc zero)))) z m bs own = array_step z m bs (own.stride refl)
-  own_step (suc (suc (suc (suc (suc c))))) z m bs own = absurd (omega (arith, own.admits))
+  own_step (suc (suc (suc (suc (suc c))))) z m bs own = absurd (omega (arith, own.known))
 
   module _ (bs : List ℕ) where
     pub step_stop : head bs ≡ broken → pending n t ls k bs ≡ broken

@@ -61,7 +61,7 @@ module _ {table : Table} where
 
   module _ {s : List ℕ} {q : ℕ} {d : List CachedAnswer} {ty at : ℕ} {b : Bool} (M : CacheTrue table s q d) where
     marked_answer : Marks ty at s q b → Supports table ty at s q b
-    marked_answer m = rw m.past at ((M.nodes q (Below.itself q)).is ty b m.tag)
+    marked_answer m = rw m.past at ((M.nodes q (Below.root q)).is ty b m.tag)
 
     pub recalled : ty < 1024 → Recollects ty at s q d b → Supports table ty at s q b
     recalled l = ⊎_elim marked_answer (M.list.is ty at q b l)

@@ -77,7 +77,7 @@ pub enum NotAsked {
 // The answer of a type.
 pub fn ask(table: &Table<'_>, ty: u32, at: u32, s: &mut [u8], q: usize) -> Result<bool, NotAsked>
     requires { Askable table.now ty s.old q }
-    ensures answers { Asked table.now ty at s.old q result }
+    ensures asked { Asked table.now ty at s.old q result }
     ensures unchanged { Unchanged s.old s.new }
 {
     match table.layout_of(ty) {

@@ -23,8 +23,8 @@ ask-requires-then-is_no c = asks_after c.ask-asked.ensures.unchanged (askable_le
 pub returns-then-is_no-clause-keeps : goal.returns-then-is_no-clause-keeps
 returns-then-is_no-clause-keeps c =
     let asked = c.ask-asked.ensures in
-    keeps_second c.argument-ty.ensures c.in-Some.ensures c.if-c-ty.false asked.answers c.is_no.ensures c.if-is_no.true (answers_before asked.unchanged c.ask-then-is_no.ensures.answers) c.decide-then-is_no.ensures
+    keeps_second c.argument-ty.ensures c.in-Some.ensures c.if-c-ty.false asked.asked c.is_no.ensures c.if-is_no.true (answers_before asked.unchanged c.ask-then-is_no.ensures.asked) c.decide-then-is_no.ensures
 
 pub returns-clause-keeps : goal.returns-clause-keeps
 returns-clause-keeps c =
-    keeps_first c.argument-ty.ensures c.in-Some.ensures c.if-c-ty.false c.ask-asked.ensures.answers c.is_no.ensures c.if-is_no.false c.decide-2.ensures
+    keeps_first c.argument-ty.ensures c.in-Some.ensures c.if-c-ty.false c.ask-asked.ensures.asked c.is_no.ensures c.if-is_no.false c.decide-2.ensures

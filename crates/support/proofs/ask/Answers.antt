@@ -3,5 +3,5 @@ use Rattle.std.proofs.Common.{rules}
 use Rattle.support.proofs.Asking.{ok_answers}
 use Rattle.support.proofs.ask.Goals as goal
 
-pub returns-in-Concrete-clause-cached : goal.returns-in-Concrete-clause-cached
-returns-in-Concrete-clause-cached c = search (ok_answers, rules)
+pub returns-in-Concrete-clause-asked : goal.returns-in-Concrete-clause-asked
+returns-in-Concrete-clause-asked c = search (ok_answers, rules)
