@@ -3,9 +3,9 @@
 -- Assumes nothing.
 use Prim.Native.Nat.{ℕ, max, ◌+◌, ◌<◌, ◌≤◌}
 use mathlib.Core.Path.{◌≡◌, refl, sym, ◌∙◌}
-use mathlib.Core.Bool.{Bool, true, false}
+use mathlib.Core.Bool.{Bool}
 use mathlib.Core.List.{List}
-use mathlib.Core.Option.{Option as Maybe, none as nothing, some}
+use mathlib.Core.Option.{Option as Maybe}
 use native.Mathlib.Omega.{arith}
 use borrow.Author.Tests.{lt-ltb, le-ltb}
 use lib.Dec.{ltb}
@@ -19,6 +19,7 @@ use Rattle.call_answers.specs.Answers.{number_of}
 use Rattle.call_answers.specs.declared.Refusal.{Refusal}
 use Rattle.call_answers.specs.declared.Refusal.TheVariants.{ShortWork, BadTable, BadFirst, BadSecond, UnknownType, ManyNodes}
 use Rattle.call_answers.proofs.Giving.{some_number}
+use Rattle.call_inputs.proofs.Refusals.{early}
 use Rattle.call_inputs.specs.Inputs.{streams_refusal, table_refusal, unread, inputs_refusal, Begun, TableMet, Met}
 
 -- 1 and 2
@@ -44,16 +45,14 @@ refused_as : {table : List ℕ} {work : ℕ} {a b : Option Found} {starts : List
     → Met table work a b starts (Err e)
 refused_as is = record { number = sym is; good = tt }
 
-begin_refused : (k : ℕ) → 1 ≤ k → (a b : Option Found) (p : Bool) (t : Maybe Table) → k ≡ (when p then 1 else unread t)
+begin_refused : (a b : Option Found) (k : ℕ) → 1 ≤ k → (p : Bool) (t : Maybe Table) → k ≡ (when p then 1 else unread t)
     → (when p then 1 else table_refusal t a b) ≡ k
 unfolding when◌then◌else◌
-begin_refused k at_least a b true t e = sym e
-begin_refused k at_least a b false nothing e = sym e
-begin_refused k at_least a b false (some t) e = absurd (omega (arith, at_least, e))
+begin_refused a b = early (λ p t k. (when p then 1 else table_refusal t a b) ≡ k) (λ t. refl) refl
 
 pub meets_table : {table : List ℕ} {work : ℕ} {starts : List ℕ} {e : Refusal} → TableMet table work starts (Err e) → (a b : Option Found) → Met table work a b starts (Err e)
 meets_table {table} {work} {starts} {e} met a b =
-    refused_as (begin_refused (number_of e) (some_number e) a b (ltb work work_limit) (table_of table) met.number)
+    refused_as (begin_refused a b (number_of e) (some_number e) (ltb work work_limit) (table_of table) met.number)
 
 module _ {table starts : List ℕ} {work k : ℕ} (t : Begun table work starts k) where
   with_table_lem : (a b : Option Found) → inputs_refusal work (table_of table) a b ≡ streams_refusal k a b

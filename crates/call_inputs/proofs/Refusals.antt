@@ -1,7 +1,7 @@
 -- The refusals that calls share, one after the other: each is answered where its test fails, and where it does not the call goes on.
 -- Assumes nothing.
 use Prim.Native.Nat.{ℕ, ◌<◌, ◌≤◌}
-use mathlib.Core.Path.{◌≡◌, sym, ap}
+use mathlib.Core.Path.{◌≡◌, refl}
 use mathlib.Core.Bool.{Bool, true, false}
 use mathlib.Core.List.{List}
 use mathlib.Core.Option.{Option as Maybe, none as nothing, some}
@@ -21,12 +21,18 @@ use Rattle.call_inputs.specs.Inputs.{unread, Begun, TableMet}
 
 -- 1 and 2
 
-refused_begin : {A : Type 0} (k : ℕ) → 1 ≤ k → (next : Table → Result A) (p : Bool) (t : Maybe Table)
+-- what holds where 1 is met and where 2 is met holds where either is
+pub early : (P : Bool → Maybe Table → ℕ → Type 0) → ((t : Maybe Table) → P true t 1) → P false nothing 2
+    → (k : ℕ) → 1 ≤ k → (p : Bool) (t : Maybe Table) → k ≡ (when p then 1 else unread t) → P p t k
+unfolding when◌then◌else◌
+early P short bad k at_least true t e = rw e (short t)
+early P short bad k at_least false nothing e = rw e bad
+early P short bad k at_least false (some t) e = absurd (omega (arith, at_least, e))
+
+refused_begin : {A : Type 0} (next : Table → Result A) (k : ℕ) → 1 ≤ k → (p : Bool) (t : Maybe Table)
     → k ≡ (when p then 1 else unread t) → (when p then refused 1 else given 2 t next) ≡ refused k
 unfolding when◌then◌else◌
-refused_begin k at_least next true t e = ap refused (sym e)
-refused_begin k at_least next false nothing e = ap refused (sym e)
-refused_begin k at_least next false (some t) e = absurd (omega (arith, at_least, e))
+refused_begin next = early (λ p t k. (when p then refused 1 else given 2 t next) ≡ refused k) (λ t. refl) refl
 
 module _ {A : Type 0} (next : Setting → Result A) where
   pub short_work : (work : ℕ) (table : List ℕ) → work < work_limit → with_table work table next ≡ refused 1
@@ -46,7 +52,7 @@ module _ {A : Type 0} (next : Setting → Result A) where
 
   pub table_refused : {table starts : List ℕ} {work : ℕ} {e : Refusal} → TableMet table work starts (Err e) → with_table work table next ≡ refused (number_of e)
   table_refused {table} {work} {e} met =
-      refused_begin (number_of e) (some_number e) (λ t. next (record { table = t })) (ltb work work_limit) (table_of table) met.number
+      refused_begin (λ t. next (record { table = t })) (number_of e) (some_number e) (ltb work work_limit) (table_of table) met.number
 
 -- 5 and 7
 

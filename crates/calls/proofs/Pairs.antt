@@ -28,11 +28,10 @@ use Rattle.report.specs.Emitted.{SameBuffer}
 use Rattle.report.specs.declared.Report.{Report}
 use Rattle.call_inputs.specs.declared.Nodes.{Nodes}
 use Rattle.stream_load.specs.Loading.{by_number}
-use Rattle.place_states.proofs.Starting.{ready_two}
-use Rattle.place_states.specs.Calls.{Two, Ready, NoWrap, Placed, ground, placing, merging}
+use Rattle.place_states.specs.Calls.{Two, NoWrap, Placed, ground, placing, merging}
 use Rattle.place_states.specs.declared.SizeRefusal.{SizeRefusal}
 use Rattle.place_states.specs.declared.Merged.{Merged}
-use Rattle.call_inputs.specs.Inputs.{Good, Both, BothLoaded}
+use Rattle.call_inputs.specs.Inputs.{Good, BothLoaded}
 use Rattle.call_answers.specs.Writing.{Gives, Reached, Reachable, Finished}
 use Rattle.call_answers.specs.declared.Refusal.{Refusal}
 use Rattle.call_answers.specs.declared.Written.{Written}
@@ -83,20 +82,6 @@ unfolding merging
 merging_few st a b n few u w p e = merge_mem_few st a b e few
 
 module _ {table : Table} {first second : List ℕ} {n : Nodes} {work : List ℕ} (ready : PairReady table first second n work) where
-  pub both : Both first second n work
-  both =
-      let pair = ready.pair in
-      record {
-        a = pair.a;
-        b = pair.b;
-        left_reads = pair.left.reads;
-        right_reads = pair.right.reads;
-        left_nodes = sym pair.left_nodes;
-        right_nodes = sym pair.right_nodes;
-        inside = omega (arith, ready.few, ready.area);
-        few = omega (arith, ready.few);
-      }
-
   module _ {work₁ : List ℕ} (same : length work₁ ≡ length work) (loaded : BothLoaded first second n work work₁) where
     two : (st : Setting) (pair : Pair st.table first second n)
         → Two (length st.table) work₁ 1 (1 + n.first) by_number 1 (1 + n.first) (1 + n.first + n.second) pair.a pair.b
@@ -107,9 +92,6 @@ module _ {table : Table} {first second : List ℕ} {n : Nodes} {work : List ℕ}
       right_fits = pair.right.fits;
       few = omega (arith, ready.few, pair.left_nodes, pair.right_nodes);
     }
-
-    pub merges : Ready table work₁ 1 (1 + n.first)
-    merges = ready_two ready.setting (two ready.setting ready.pair) ready.known (omega (arith, ready.area))
 
     pub near : NoWrap 0 (nodes_at work₁ 1 + nodes_at work₁ (1 + n.first))
     near = near_two (two ready.setting ready.pair) 0 (omega arith)

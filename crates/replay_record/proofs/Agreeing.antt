@@ -10,13 +10,11 @@ use Rattle.std.specs.Prelude.{Result as Returned}
 use Rattle.definitions.specs.If.{when◌then◌else◌}
 use Rattle.definitions.specs.Calls.{Answer as Told, receiver_call, supports_call, place_call, merge_call, fold_call, sound_call}
 use Rattle.numbers.specs.Words.{word}
-use Rattle.call_answers.specs.Answers.{answer_of, said_of, told_of}
-use Rattle.call_answers.specs.Writing.{Gives}
+use Rattle.call_answers.specs.Answers.{answer_of, said_of}
 use Rattle.call_answers.specs.declared.Answer.{Answer}
 use Rattle.call_answers.specs.declared.Refusal.{Refusal}
-use Rattle.call_answers.specs.declared.Written.{Written}
 use Rattle.replay_record.specs.Parts.{Recorded, writing_number}
-use Rattle.replay_record.specs.Agrees.{Says, Holds, Wrote, Handed, called, Writes, Agrees, receiver, supports, writing, sound}
+use Rattle.replay_record.specs.Agrees.{Says, Handed, called, Writes, Agrees, receiver, supports, writing, sound}
 use Rattle.replay_record.specs.declared.Writing.{Writing}
 use Rattle.replay_record.specs.declared.Writing.TheVariants.{Place, Merge, Fold}
 
@@ -50,13 +48,6 @@ module _ (r : Recorded) where
     pub is_fold : (work : ℕ) → w ≡ Fold → work ≡ word r.head 1 → fold_call r.parts.table work r.parts.first output n ≡ called (writing_number w) r output n
     unfolding called when◌then◌else◌
     is_fold work e f = rw (e, f) refl
-
-    pub wrote : (a : Answer) (got : Returned Written Refusal) (output' report' : List ℕ) → Gives (called (writing_number w) r output n) got output' report'
-        → answer_of a ≡ told_of got → Says r.tail 10 (answer_of a) → Holds r output' report' → Wrote r (called (writing_number w) r output n)
-    wrote a got output' report' g same says holds = record {
-      numbers = subst (λ (t : Told). Says r.tail 10 t) (same ∙ g.numbers) says;
-      buffers = rw (g.usage, g.reported) at holds;
-    }
 
   pub wrote_agrees : (w : Writing) → Writes r (writing_number w) → Agrees r (writing_number w)
   wrote_agrees Place h = writing 2 (omega arith) (omega arith) h
