@@ -45,7 +45,7 @@ abbrev pub refusal_of : {A : Type 0} → Returned A Refusal → ℕ
 refusal_of (Ok x) = 0
 refusal_of (Err e) = number_of e
 
--- there are enough bytes of a work area, and the table's records, so many, stand at these places
+-- there are enough bytes of a work area, and the table's records, so many, start there
 pub record Begun (table : List ℕ) (work : ℕ) (starts : List ℕ) (types : ℕ) : Type 0 where
   pub enough : work_limit ≤ work
   pub records : Records table starts types
@@ -62,7 +62,7 @@ KnownTypes types needed r = MatchResult r (λ u. needed ≤ types) (λ e. (e ≡
 abbrev pub FewNodes : ℕ → Returned (Unit {0}) Refusal → Type 0
 FewNodes n r = MatchResult r (λ u. n ≤ node_limit) (λ e. (e ≡ ManyNodes) × (node_limit < n))
 
--- no refusal: the table's records stand at these places, and the streams have so many nodes, few enough, with types of the table
+-- no refusal: the table's records start there, and the streams have so many nodes, few enough, with types of the table
 pub record Good (table : List ℕ) (work : ℕ) (a b : Option Found) (starts : List ℕ) (n : Nodes) : Type 0 where
   pub types : ℕ
   pub begun : Begun table work starts types

@@ -61,7 +61,7 @@ answer : fold_call table work_limit list (replicate 12 7) 5 ≡ record {
 unfolding table three list fold_call table_of list_of read_node read_node_in fold merge_mem place place_in supports supports_in when◌then◌else◌ command_at
 answer = refl
 
--- the table, with the places of its records
+-- the table, with the starts of its records
 lent : Lent
 lent = record { bytes = record { ref_ptr = (0, 0); now = table }; starts = record { ref_ptr = (0, 0); now = 2 ∷ 11 ∷ [] } }
 

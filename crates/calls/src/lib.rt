@@ -1,5 +1,5 @@
-// The calls: who receives; and those with a table, which lend places for its records. What they are given are the parameters of the calls for C,
-// in their order.
+// The calls: who receives; and those with a table, which lend numbers for where its records start. What they are given are the parameters of
+// the calls for C, in their order.
 #![tactic(auto)]
 
 ghost use Rattle.std.specs.Prelude.{◌≡◌, length};
@@ -17,8 +17,8 @@ mod with_starts;
 
 pub use receiver_rule::{Received, receiver, receiving};
 
-// What a call gives that is lent places for a table's records. Places are cleared first, so a table that says it has few records gets
-// few.
+// What a call gives that is lent numbers for where a table's records start. They are cleared first, so a table that says it has few records
+// gets few.
 fn lend_starts<R, F: FnMut(&mut [u32]) -> R>(table: &[u8], call: &mut F) -> R
     requires { (starts : _) → Room table.now starts.now → F.pre call.old starts }
     ensures { (starts : _) × (starts' : _) × Room table.now starts.now × F.step call.old starts result starts' call.new }

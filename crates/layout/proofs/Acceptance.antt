@@ -1,5 +1,5 @@
--- A table is read one record at a time, behind those that stand already; each new one is put at the end of the table, and its
--- place at the end of the places.
+-- A table is read one record at a time, behind those that stand already; each new one is put at the end of the table, and where
+-- it starts at the end of the starts.
 -- Assumes nothing.
 use Prim.Native.Nat.{ℕ, suc, ◌+◌, ◌*◌, ◌-◌, ◌≤◌, ◌<◌}
 use native.Mathlib.Omega.{arith}
@@ -24,9 +24,9 @@ use Rattle.layout.specs.declared.table.Table.{Table}
 
 -- One record more
 
--- the records ls stand in each table that holds the first n places
-abbrev pub Stands : List ℕ → List ℕ → ℕ → Layouts → Type 0
-Stands s starts n ls = (t : Table) → Holds t s starts n → AllLocated t ls
+-- the records ls stand in each table that holds the first n starts
+abbrev pub AllHeld : List ℕ → List ℕ → ℕ → Layouts → Type 0
+AllHeld s starts n ls = (t : Table) → Holds t s starts n → AllLocated t ls
 
 -- a table has a place for each of the first n records, where there are so many
 enough : {t : Table} {s : List ℕ} (starts : List ℕ) (n : ℕ) → Holds t s starts n → n ≤ length starts → n ≤ length t.starts.now
@@ -49,8 +49,8 @@ module _ {t : Table} {s : List ℕ} (starts : List ℕ) (n at : ℕ) (h : Holds 
       sym (get_or-take (n + 1) t.starts.now n 0 (omega arith)) ∙ ap (λ (x : List ℕ). get_or x n 0) first_is
       ∙ get_or_at (take n starts) at [] 0 n (length-take-le n starts (omega arith))
 
-one_more : {s starts : List ℕ} {n : ℕ} {ls : Layouts} (l : Layout) (at : ℕ) (rest : List ℕ) → length ls ≡ n → Stands s starts n ls → n < length starts →
-    read_layout (drop at s) ≡ read l rest → admitted ls l ≡ true → Stands s (set starts n at) (n + 1) (ls ++ l ∷ [])
+one_more : {s starts : List ℕ} {n : ℕ} {ls : Layouts} (l : Layout) (at : ℕ) (rest : List ℕ) → length ls ≡ n → AllHeld s starts n ls → n < length starts →
+    read_layout (drop at s) ≡ read l rest → admitted ls l ≡ true → AllHeld s (set starts n at) (n + 1) (ls ++ l ∷ [])
 one_more {s} {starts} {n} {ls} l at rest c st r e a t h ty u =
     elim (dec_lt ty n) [
       | yes v ↦
@@ -79,7 +79,7 @@ one_more {s} {starts} {n} {ls} l at rest c st r e a t h ty u =
 pub record Reading (s starts : List ℕ) (count at n : ℕ) : Type 0 where
   pub layouts : Layouts
   pub counted : length layouts ≡ n
-  pub stand : Stands s starts n layouts
+  pub stand : AllHeld s starts n layouts
   pub within : n ≤ count
   pub limit : count ≤ 1024
   pub room : count ≤ length starts

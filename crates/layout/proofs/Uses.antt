@@ -13,7 +13,7 @@ use Rattle.layout.specs.Containing.{containing_from, Finds}
 use Rattle.layout.specs.declared.containment.Component.{Component}
 use Rattle.layout.specs.declared.table.Table.{Table}
 
--- The table that was accepted, over its places
+-- The table that was accepted, over its starts
 
 module _ {t : Table} {s starts : List ℕ} {n : ℕ} where
   pub holds_whole : t.bytes.now ≡ s → t.starts.now ≡ starts → Holds t s starts n

@@ -21,7 +21,7 @@ pub record Located (t : Table) (ls : Layouts) (ty : ℕ) : Type 0 where
 abbrev pub AllLocated : Table → Layouts → Type 0
 AllLocated t ls = (ty : ℕ) → ty < length ls → Located t ls ty
 
--- the table that the bytes are is the setting's, and its records stand at these places
+-- the table that the bytes are is the setting's, and its records start there
 pub record Known (t : Table) (st : Setting) : Type 0 where
   pub read : table_of t.bytes.now ≡ some st.table
   pub placed : AllLocated t st.table
@@ -66,13 +66,13 @@ pub record FieldsAdmitted (t : Table) (fs : FieldList) (r : Bool) : Type 0 where
 pub record Admitted (t : Table) (at : ℕ) (r : Bool) : Type 0 where
   pub is : (ls : Layouts) → Prefix t ls → (l : Layout) (rest : List ℕ) → read_layout (drop at t.bytes.now) ≡ read l rest → r ≡ admitted ls l
 
--- Acceptance. Of a table that is refused nothing is said of the places.
+-- Acceptance. Of a table that is refused nothing is said of the starts.
 
--- there is a place for each record that s says it has, unless it says more than a table may have
+-- there is a number for each record that s says it has, unless it says more than a table may have
 abbrev pub Room : List ℕ → List ℕ → Type 0
 Room s starts = record_count s ≤ record_limit → record_count s ≤ length starts
 
--- t has the bytes s, and the first n of these places
+-- t has the bytes s, and the first n of these starts
 pub record Holds (t : Table) (s starts : List ℕ) (n : ℕ) : Type 0 where
   pub bytes : t.bytes.now ≡ s
   pub first : take n t.starts.now ≡ take n starts

@@ -1,5 +1,5 @@
-// Layout tables: which bytes are one, what the record of a type says, and which of its components contain a range. Records are read at
-// their places, and a list of fields is a place too: `accept` keeps places in 32 bits, where a slice of the rest would take four times the room.
+// Layout tables: which bytes are one, what the record of a type says, and which of its components contain a range. Records are read where
+// they start, and a list of fields is a byte's number too: `accept` keeps these in 32 bits, where a slice of the rest would take four times the room.
 #![tactic(auto)]
 
 ghost use Rattle.std.specs.Prelude.{◌≡◌, true, ◌≤◌};

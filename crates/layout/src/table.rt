@@ -54,7 +54,7 @@ pub struct Field {
     pub ty: u32,
 }
 
-// A type and a place are 32 bits, and become an index by `as`: `usize` has no From of them.
+// A type and a record's start are 32 bits, and become an index by `as`: `usize` has no From of them.
 
 impl Table<'_> {
     // The layout of a type, found in one step.

@@ -45,7 +45,8 @@ fn set_successor(s: &mut [u8], a: usize, low: usize, q: usize)
     }
 }
 
-// The same, and the finger of a is `low`: the number of a record, which fits the 32 bits to which `as` cuts it, here and below.
+// The entries of a up to `low` and those from q on are one list, and the finger of a is `low`: the number of a record, which fits the 32 bits
+// to which `as` cuts it, here and below.
 fn concat(s: &mut [u8], a: usize, low: usize, q: usize)
     requires { (a * 32 + 32 ≤ length s.old) × (low * 32 + 32 ≤ length s.old) × (q < 65536) × (length s.old ≤ 2097152) }
     ensures { Concatenated s.old a low q s.new }

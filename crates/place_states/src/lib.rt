@@ -56,8 +56,8 @@ pub enum Rule {
 }
 
 // What a placing has yet to do. A pair: x and m. Or what the pairs so far have come to: x. The widest fields
-// stand first: without a gap between them a state is copied in whole pieces. It is one struct for all rules, so that a turn changes the fields
-// that it has to: with a case for each rule, every turn would take it apart. A record of 0 is none, as in the links.
+// stand first: without a gap between them a state is copied in whole pieces. It is one struct for all rules, so that a step changes the fields
+// that it has to: with a case for each rule, every step would take it apart. A record of 0 is none, as in the links.
 #[derive(Clone, Copy)]
 pub struct State {
     pub x: usize, // if finished, the result

@@ -6,7 +6,7 @@ use Rattle.std.proofs.lemmas.Result.{err_from_is_err_and}
 use Rattle.analyze.proofs.Loop.{begun_refused, loop_last, loop_refused, loop_waits, pair_asked, loop_again, chain_less, alive, acting, placed_pair, merged_pair}
 use Rattle.analyze.proofs.Merging.{ready_swap, merged_left, merged_right}
 use Rattle.analyze.proofs.+merging.Goals as goal
-use Rattle.analyze.proofs.+merging.Goals.{merge_mem_at-After-settle-st, merge_mem_at-in-Place+in_ok-r-in-Place, merge_mem_at-in-Merge+in_ok-r-in-Merge}
+use Rattle.analyze.proofs.+merging.Goals.{merge_mem_at-After-take_result-st, merge_mem_at-in-Place+in_ok-r-in-Place, merge_mem_at-in-Merge+in_ok-r-in-Merge}
 
 pub merge_mem-returns-then-first_receives : goal.merge_mem-returns-then-first_receives
 merge_mem-returns-then-first_receives t c = search (merged_left, rules)
@@ -51,7 +51,7 @@ merge_mem_at-returns-in_err-r-in-Merge t c =
     rw (p.1, p.2) (loop_refused c.requires.ready c.requires.near c.in_ok-st.ensures c.turns.invariant c.in-Pair.is (merged_pair _ c.in-Merge.is c.in_err-r-in-Merge.ensures))
 
 -- whichever call the pair asked for, it gave what placing or merging gives
-pair_placed : (t : ℕ) (c : merge_mem_at-After-settle-st t) → Placed (acting c.in-Pair.how c.turns.st.d) c.args.table.now c.turns.s c.turns.st.x c.turns.st.m c.match-how.s (Ok c.match-how.r) c.turns.report c.match-how.report
+pair_placed : (t : ℕ) (c : merge_mem_at-After-take_result-st t) → Placed (acting c.in-Pair.how c.turns.st.d) c.args.table.now c.turns.s c.turns.st.x c.turns.st.m c.match-how.s (Ok c.match-how.r) c.turns.report c.match-how.report
 pair_placed t c = elim c.match-how.branch [
   | merge_mem_at-in-Place+in_ok-r-in-Place w ↦ rw (← w.s-is, ← w.report-is, ← w.r-is) at (placed_pair c.turns.st.d w.in-Place.is w.in_ok-r-in-Place.ensures)
   | merge_mem_at-in-Merge+in_ok-r-in-Merge w ↦ rw (← w.s-is, ← w.report-is, ← w.r-is) at (merged_pair c.turns.st.d w.in-Merge.is w.in_ok-r-in-Merge.ensures)
@@ -59,9 +59,9 @@ pair_placed t c = elim c.match-how.branch [
 
 pub merge_mem_at-turns-smaller : goal.merge_mem_at-turns-smaller
 merge_mem_at-turns-smaller t c =
-    chain_less c.turns.invariant c.in-Pair.is (omega (arith, c.requires.near)) (pair_placed t c) c.settle-st.ensures (omega (arith, c.settle-st.type_inv))
+    chain_less c.turns.invariant c.in-Pair.is (omega (arith, c.requires.near)) (pair_placed t c) c.take_result-st.ensures (omega (arith, c.take_result-st.type_inv))
     c.requires.ready.setting c.requires.ready.known (alive c.requires.ready c.requires.near c.in_ok-st.ensures c.turns.invariant)
 
 pub merge_mem_at-turns-preserved : goal.merge_mem_at-turns-preserved
 merge_mem_at-turns-preserved t c =
-    loop_again c.turns.invariant c.in-Pair.is (omega (arith, c.requires.near)) (pair_placed t c) c.settle-st.ensures (omega (arith, c.settle-st.type_inv)) c.match-how.auto.s
+    loop_again c.turns.invariant c.in-Pair.is (omega (arith, c.requires.near)) (pair_placed t c) c.take_result-st.ensures (omega (arith, c.take_result-st.type_inv)) c.match-how.auto.s

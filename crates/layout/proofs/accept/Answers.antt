@@ -1,4 +1,4 @@
--- The invariant: n records stand where the places say, and the rest of the table is to be read behind them.
+-- The invariant: n records stand where the starts say, and the rest of the table is to be read behind them.
 use borrow.Author.Rules.{rules}
 use Rattle.layout.proofs.Acceptance.{refuses, accepts, no_count, many_records, first_record, no_record, not_admitted, next_record, left_over, found}
 use Rattle.layout.proofs.accept.Goals as goal

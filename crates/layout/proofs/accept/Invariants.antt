@@ -1,4 +1,4 @@
--- The invariant: n records stand where the places say, and the rest of the table is to be read behind them.
+-- The invariant: n records stand where the starts say, and the rest of the table is to be read behind them.
 use Rattle.layout.proofs.Acceptance.{Reading}
 use Rattle.layout.proofs.accept.Given as goal
 
