@@ -2,10 +2,11 @@
 -- Assumes nothing.
 use Rattle.std.proofs.Common.{◌≡◌, ℕ, ◌≤◌, List, sym, ap, ◌∙◌, arith}
 use Rattle.definitions.specs.Usage.{Entries, none, count}
+use Rattle.definitions.proofs.Nodes.{few_entries}
 use Rattle.record_links.specs.Rows.{chain}
 use Rattle.record_links.proofs.Stands.{row_le}
 use Rattle.record_links.proofs.Chains.{chain_zero, chain_many, down_chain}
-use Rattle.record_links.proofs.Entries.{few_entries, count_onto}
+use Rattle.record_links.proofs.Entries.{count_onto}
 use Rattle.place_states.specs.Continuation.{Continuation, entries, element, joins, outer}
 use Rattle.place_states.specs.States.{Outside}
 use Rattle.place_states.specs.declared.State.{State}

@@ -2,15 +2,14 @@
 -- Assumes nothing.
 use Rattle.std.proofs.Common.{◌≡◌, ℕ, ◌+◌, ◌%◌, ◌^◌, ◌<◌, true, false, List, [], length, refl, sym, ap, ◌∙◌, arith}
 use Rattle.std.specs.Prelude.{Ok}
-use Rattle.definitions.specs.Usage.{Usage, array, nodes}
+use Rattle.definitions.specs.Usage.{Usage, nodes}
 use Rattle.definitions.specs.Command.{head_of}
 use Rattle.definitions.specs.Table.{Setting}
-use Rattle.definitions.specs.Place.{done, stride_conflict, after, place_by_kind, place}
+use Rattle.definitions.specs.Place.{stride_conflict, after, place_by_kind, place}
 use Rattle.records.specs.Records.{command_in, child_in, argument_in}
 use Rattle.record_links.specs.Standing.{Stands}
 use Rattle.record_links.proofs.ByCommand.{IsArray, is_array}
-use Rattle.record_links.proofs.Stands.{stands_wide, stands_le}
-use Rattle.record_links.proofs.Frames.{kept_none}
+use Rattle.record_links.proofs.Stands.{stands_wide}
 use Rattle.report.specs.Emitted.{Emitted}
 use Rattle.report.specs.declared.Report.{Report}
 use Rattle.place_states.specs.Calls.{Two, ground}

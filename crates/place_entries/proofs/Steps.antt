@@ -7,11 +7,11 @@ use Rattle.definitions.specs.Usage.{Usage, none, entry, nodes}
 use Rattle.definitions.specs.Table.{Setting}
 use Rattle.definitions.specs.Place.{done, of_rule}
 use Rattle.definitions.specs.Stream.{bytes}
+use Rattle.definitions.proofs.Nodes.{few_entries}
 use Rattle.records.specs.Records.{next_in, offset_in}
 use Rattle.record_links.specs.Standing.{Stands}
 use Rattle.record_links.specs.Rows.{chain}
 use Rattle.record_links.proofs.Chains.{row_falls}
-use Rattle.record_links.proofs.Entries.{few_entries}
 use Rattle.record_links.proofs.Stands.{stands_root, stands_wide}
 use Rattle.report.specs.Emitted.{Emitted}
 use Rattle.report.proofs.Emitting.{emitted_after}

@@ -13,7 +13,7 @@ use Rattle.definitions.specs.Usage.{Size, fixed, dynamic, Usage, map, Entries, n
 use Rattle.definitions.specs.Table.{Setting}
 use Rattle.definitions.specs.Place.{refused, ends, past32, ◌≤ˢ◌, after, overlapping, join_found, rebuilt, place_in_map, place_in_kind, place_by_kind, place, joined}
 use Rattle.definitions.specs.Sound.{Storable, Ascends}
-use Rattle.definitions.proofs.Nodes.{append_nodes}
+use Rattle.definitions.proofs.Nodes.{append_nodes, few_entries}
 use Rattle.records.specs.Records.{Cell, command_in, child_in, size_in}
 use Rattle.record_links.specs.Standing.{Root, Finger, Stands, Row}
 use Rattle.record_links.specs.Rows.{Up, onto}
@@ -22,7 +22,7 @@ use Rattle.record_links.specs.Frames.{Kept}
 use Rattle.record_links.proofs.Stands.{root_same, stands_le, row_le, up_le, stands_still, row_still, down_still, up_still}
 use Rattle.record_links.proofs.Frames.{kept_trans, kept_widen, apart}
 use Rattle.record_links.proofs.Ranks.{rot_kept, rot_right, row_left}
-use Rattle.record_links.proofs.Entries.{append_assoc, rev_twice, few_entries}
+use Rattle.record_links.proofs.Entries.{append_assoc, rev_twice}
 use Rattle.record_links.proofs.Rows.{down_none}
 use Rattle.record_links.proofs.Shapes.{map_of}
 use Rattle.report.specs.Emitted.{Emitted}

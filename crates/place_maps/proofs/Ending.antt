@@ -9,6 +9,7 @@ use native.Mathlib.Omega.{arith}
 use Rattle.definitions.specs.Usage.{Size, Usage, map, Entries, none, entry, ◌<+>◌}
 use Rattle.definitions.specs.Place.{done, after, insert, of_rule, straddle_conflict}
 use Rattle.definitions.specs.Sound.{Ascends}
+use Rattle.definitions.proofs.Nodes.{few_entries}
 use Rattle.records.specs.Records.{Cell, cell, next_in, offset_in, with_next, with_offset, Set}
 use Rattle.record_links.specs.Standing.{Stands, Row}
 use Rattle.record_links.specs.Rows.{Down, Up, onto}
@@ -16,7 +17,7 @@ use Rattle.record_links.specs.Frames.{Kept}
 use Rattle.record_links.proofs.Stands.{stands_root, root_same, stands_le, row_le, down_le, up_le, row_low, up_still, row_still}
 use Rattle.record_links.proofs.Frames.{kept_trans, kept_set, kept_widen, apart, set_trans}
 use Rattle.record_links.proofs.Changes.{stands_relink}
-use Rattle.record_links.proofs.Entries.{rev_app, few_entries, onto_nodes}
+use Rattle.record_links.proofs.Entries.{rev_app, onto_nodes}
 use Rattle.record_links.proofs.Rows.{row_one, bottom, down_none}
 use Rattle.report.specs.Emitted.{Emitted}
 use Rattle.report.proofs.Emitting.{emitted_over}

@@ -11,13 +11,13 @@ use Rattle.definitions.specs.Usage.{Size, Usage, Entries, none, entry, size, nod
 use Rattle.definitions.specs.Table.{Setting}
 use Rattle.definitions.specs.Place.{Joining}
 use Rattle.definitions.specs.Sound.{Storable, Ascends}
-use Rattle.definitions.proofs.Nodes.{append_nodes}
+use Rattle.definitions.proofs.Nodes.{append_nodes, few_entries}
 use Rattle.definitions.proofs.Storable.{ascends_back}
 use Rattle.records.specs.Records.{next_in, size_in, offset_in}
 use Rattle.record_links.specs.Standing.{Stands}
 use Rattle.record_links.specs.Rows.{Down, onto, chain}
 use Rattle.record_links.proofs.Chains.{down_falls}
-use Rattle.record_links.proofs.Entries.{append_assoc, rev_app, few_entries, onto_nodes}
+use Rattle.record_links.proofs.Entries.{append_assoc, rev_app, onto_nodes}
 use Rattle.record_links.proofs.Stands.{stands_root, root_same, down_le, up_le}
 use Rattle.record_links.proofs.Rows.{Top, top, row_in, down_in, up_in}
 use Rattle.report.specs.declared.Report.{Report}

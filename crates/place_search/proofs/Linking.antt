@@ -6,13 +6,13 @@ use mathlib.Core.List.{List}
 use native.Mathlib.Omega.{arith}
 use lib.ListN.{length}
 use Rattle.definitions.specs.Usage.{count}
+use Rattle.definitions.proofs.Nodes.{few_entries}
 use Rattle.records.specs.Records.{next_in, child_in}
 use Rattle.record_links.specs.Standing.{Row}
 use Rattle.record_links.specs.Rows.{chain}
 use Rattle.record_links.proofs.Stands.{stands_root}
 use Rattle.record_links.proofs.Rows.{Head, head}
 use Rattle.record_links.proofs.Chains.{row_falls}
-use Rattle.record_links.proofs.Entries.{few_entries}
 use Rattle.place_search.specs.Parts.{Listed}
 use Rattle.place_search.specs.Seeking.{Linked, Within}
 

@@ -9,10 +9,11 @@ use native.Mathlib.Omega.{arith}
 use lib.ListN.{length}
 use Rattle.definitions.specs.Usage.{Size, fixed, Usage, Entries, none, entry, size, count}
 use Rattle.definitions.specs.Place.{ends, ◌≤ˢ◌}
+use Rattle.definitions.proofs.Nodes.{few_entries}
 use Rattle.records.specs.Records.{next_in, child_in, size_in, argument_in, offset_in}
 use Rattle.record_links.specs.Standing.{Row, Finger}
 use Rattle.record_links.specs.Rows.{Up, link, onto, chain}
-use Rattle.record_links.proofs.Entries.{few_entries, rev_app, count_onto}
+use Rattle.record_links.proofs.Entries.{rev_app, count_onto}
 use Rattle.record_links.proofs.Stands.{stands_root, link_suc}
 use Rattle.record_links.proofs.Fingers.{Parted as Fingered, finger_split}
 use Rattle.record_links.proofs.Rows.{head, up_in, up_none, up_one}

@@ -1,12 +1,11 @@
--- A usage's own part has its size, and its command tells a map and an array from the others. A map has no more entries than nodes.
+-- A usage's own part has its size, and its command tells a map and an array from the others.
 -- Assumes nothing.
-use Prim.Native.Nat.{ℕ, ◌≤◌}
+use Prim.Native.Nat.{ℕ}
 use mathlib.Core.Path.{◌≡◌, refl}
 use mathlib.Core.Bool.{true, false}
 use native.Mathlib.Omega.{arith}
-use Rattle.definitions.specs.Usage.{Size, Usage, unused, leaf, map, array, Entries, none, entry, size, nodes_in, count}
+use Rattle.definitions.specs.Usage.{Size, Usage, unused, leaf, map, array, Entries, size}
 use Rattle.definitions.specs.Command.{head_of}
-use Rattle.definitions.proofs.Nodes.{some_node}
 
 pub head_size : (u : Usage) → (head_of u).size ≡ size u
 head_size (unused z) = refl
@@ -38,7 +37,3 @@ is_array (leaf z true t) e = absurd (omega arith)
 is_array (leaf z false t) e = absurd (omega arith)
 is_array (map z es) e = absurd (omega arith)
 is_array (array z n x) e = record { size = z; stride = n; element = x; same = refl }
-
-pub count_nodes : (es : Entries) → count es ≤ nodes_in es
-count_nodes none = omega arith
-count_nodes (entry o u es) = omega (arith, some_node u, count_nodes es)

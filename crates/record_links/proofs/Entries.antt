@@ -1,10 +1,9 @@
 -- Entries alone: one behind another, told from the last of them down, and counted.
 -- Assumes nothing.
-use Prim.Native.Nat.{◌+◌, ◌≤◌}
+use Prim.Native.Nat.{◌+◌}
 use mathlib.Core.Path.{◌≡◌, refl, sym, ap, ◌∙◌}
 use native.Mathlib.Omega.{arith}
 use Rattle.definitions.specs.Usage.{Entries, none, entry, nodes_in, count, ◌<+>◌}
-use Rattle.definitions.proofs.Nodes.{some_node}
 use Rattle.record_links.specs.Rows.{onto}
 
 pub app_none : (x : Entries) → x <+> none ≡ x
@@ -31,11 +30,7 @@ pub rev_twice : (x : Entries) → onto (onto x none) none ≡ x
 unfolding onto
 rev_twice x = rev_rev x none none ∙ app_none x
 
--- Counted: each entry has a node
-
-pub few_entries : (es : Entries) → count es ≤ nodes_in es
-few_entries none = omega arith
-few_entries (entry o u es) = omega (arith, some_node u, few_entries es)
+-- Counted
 
 pub append_count : (x y : Entries) → count (x <+> y) ≡ count x + count y
 append_count none y = omega arith

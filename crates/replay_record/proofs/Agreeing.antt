@@ -3,9 +3,8 @@
 use Prim.Native.Nat.{ℕ}
 use mathlib.Core.Path.{◌≡◌, refl, subst, ◌∙◌}
 use mathlib.Core.Bool.{Bool}
-use mathlib.Core.List.{List, [], ◌∷◌}
+use mathlib.Core.List.{List}
 use native.Mathlib.Omega.{arith}
-use lib.ListN.{length}
 use Rattle.std.specs.Prelude.{Result as Returned}
 use Rattle.definitions.specs.If.{when◌then◌else◌}
 use Rattle.definitions.specs.Calls.{Answer as Told, receiver_call, supports_call, place_call, merge_call, fold_call, sound_call}
@@ -17,11 +16,6 @@ use Rattle.replay_record.specs.Parts.{Recorded, writing_number}
 use Rattle.replay_record.specs.Agrees.{Says, Handed, called, Writes, Agrees, receiver, supports, writing, sound}
 use Rattle.replay_record.specs.declared.Writing.{Writing}
 use Rattle.replay_record.specs.declared.Writing.TheVariants.{Place, Merge, Fold}
-
--- an empty slice
-pub empty : (xs : List ℕ) → length xs ≡ 0 → xs ≡ []
-empty [] e = refl
-empty (x ∷ xs) e = absurd (omega arith)
 
 module _ (r : Recorded) where
   pub handed : (number : ℕ) (part : List ℕ) → number ≡ word r.tail 10 → part ≡ receiver_call r.parts.first r.parts.second → Handed r.parts.first r.parts.second number part → Agrees r 0

@@ -1,6 +1,7 @@
 -- Emitted bytes behind one another, a position taken back, and the whole of a report: each position is the last one and a length.
 -- Assumes nothing.
-use Rattle.std.proofs.Common.{◌≡◌, ℕ, ◌+◌, ◌-◌, ◌%◌, ◌^◌, ◌<◌, ◌≤◌, List, [], ◌∷◌, ◌++◌, length, get_or, take, sym, refl, ap, ◌∙◌, arith, length-append, length-take-le, get_or-take, get_or-append-add, ext_get_or}
+use Rattle.std.proofs.lemmas.List.{nil_from_length}
+use Rattle.std.proofs.Common.{◌≡◌, ℕ, ◌+◌, ◌-◌, ◌%◌, ◌^◌, ◌<◌, ◌≤◌, List, [], ◌++◌, length, get_or, take, sym, refl, ap, ◌∙◌, arith, length-append, length-take-le, get_or-take, get_or-append-add, ext_get_or}
 use native.Mathlib.Decide.{dec_lt}
 use lib.ListN.{get_or-append}
 use Rattle.report.specs.Emitted.{Emitted, SameBuffer}
@@ -67,13 +68,9 @@ kept_both K L = record { size = L.size ∙ K.size; name = L.name ∙ K.name }
 pub kept_emitted : {r r' : Report} {bs : List ℕ} → Emitted r bs r' → SameBuffer r r'
 kept_emitted E = record { size = E.size; name = E.same_buffer }
 
-empty : (xs : List ℕ) → length xs ≡ 0 → xs ≡ []
-empty [] e = refl
-empty (x ∷ xs) e = absurd (omega arith)
-
 -- where the position is the same again, nothing was emitted
 pub emitted_same : {r r' : Report} {bs : List ℕ} → Emitted r bs r' → r'.at ≡ r.at → r.at < 2 ^ 64 → length bs < 2 ^ 64 → bs ≡ []
-emitted_same {bs = bs} E e h l = empty bs (omega arith)
+emitted_same {bs = bs} E e h l = nil_from_length bs (omega arith)
 
 -- the whole of a report
 pub emitted_all : {r r' : Report} {w : List ℕ} → r.at ≡ 0 → Emitted r w r' → length w < 2 ^ 64

@@ -7,8 +7,7 @@ use mathlib.Core.List.{List}
 use native.Mathlib.Omega.{arith}
 use lib.ListN.{length}
 use Rattle.definitions.specs.Usage.{Usage, Entries, none, entry, nodes, nodes_in, count}
-use Rattle.definitions.proofs.Nodes.{some_node}
-use Rattle.qptr.proofs.Usages.{count_nodes}
+use Rattle.definitions.proofs.Nodes.{some_node, few_entries}
 use Rattle.records.specs.Records.{next_in, count_in, Cell, cell, with_next, Set}
 use Rattle.stream_load.specs.Loading.{first_of, Linked, EntriesLinked, Apart, KeptBelow, KeptOutside, EntriesOf, EntriesTied}
 use Rattle.stream_load.proofs.Linked.{linked_with, apart_move, count_is}
@@ -104,7 +103,7 @@ module _ {s₀ s : List ℕ} {q k p i : ℕ} (T : Ties s₀ s q k p i) where
     entry_inside = let H = this_entry in omega (arith, some_node H.usage, H.ends, E.inside)
 
     pub entry_more : {m : ℕ} → m ≡ count_in s p → i < k → p + m < 65536
-    entry_more e lt = let H = this_entry in omega (arith, e ∙ count_is H.usage s p H.offset H.here, H.ends, E.few, H.many, E.many, count_nodes H.others)
+    entry_more e lt = let H = this_entry in omega (arith, e ∙ count_is H.usage s p H.offset H.here, H.ends, E.few, H.many, E.many, few_entries H.others)
 
     pub tied : {m : ℕ} → k ≤ i → m ≡ count_in s p → EntriesTied s₀ q k s (p + m)
     tied {m} over e =
@@ -115,6 +114,6 @@ module _ {s₀ s : List ℕ} {q k p i : ℕ} (T : Ties s₀ s q k p i) where
           linked = λ es A many. (tied_last (T.of es A many) (omega arith)).0;
           behind = ends;
           kept = λ es A many. kept_last (T.of es A many);
-          some = omega (arith, ends E.entries E.stand E.many, count_nodes E.entries, E.many, E.some);
+          some = omega (arith, ends E.entries E.stand E.many, few_entries E.entries, E.many, E.some);
           few = omega (arith, ends E.entries E.stand E.many, E.few);
         }

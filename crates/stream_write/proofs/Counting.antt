@@ -12,17 +12,13 @@ use Rattle.record_links.specs.Standing.{Row}
 use Rattle.record_links.specs.Rows.{chain}
 use Rattle.record_links.proofs.Stands.{stands_root}
 use Rattle.record_links.proofs.Rows.{Head, head, end_0}
-use Rattle.record_links.proofs.Chains.{chain_many}
+use Rattle.record_links.proofs.Chains.{row_falls}
 use Rattle.stream_write.specs.Writing.{Listed, CountIs}
 
 -- from one entry to the next fewer are linked
 pub row_less : (es : Entries) (s : List ℕ) (p p' : ℕ) (rank : ℕ → ℕ) (lo hi : ℕ) → (p ≡ 0 → ⊥) → p' ≡ next_in s p → count es ≤ 65536 → Row es s p 0 rank lo hi → chain 65536 s p' < chain 65536 s p
 row_less es s p p' rank lo hi ne e few row =
-    let H = head es s p 0 rank lo hi ne row in
-    let n = ap count H.is in
-    let x : chain 65536 s p ≡ count es = chain_many 65536 es s p rank lo hi few row in
-    let y : chain 65536 s (next_in s p) ≡ count H.rest = chain_many 65536 H.rest s (next_in s p) rank H.m hi (omega arith) H.row in
-    omega (arith, x, y, ap (chain 65536 s) e)
+    omega (arith, row_falls es s p rank lo hi few ne row, ap (chain 65536 s) e)
 
 -- k entries are passed, and the others are linked from record p on
 pub record Passed (es : Entries) (s : List ℕ) (p k : ℕ) (rank : ℕ → ℕ) (hi : ℕ) : Type 0 where

@@ -7,11 +7,11 @@ use native.Mathlib.Omega.{arith}
 use Rattle.definitions.specs.Usage.{Usage, unused, leaf, map, array, nodes, count}
 use Rattle.definitions.specs.Command.{head_of, command_at, argument_width}
 use Rattle.definitions.specs.Stream.{bytes}
+use Rattle.definitions.proofs.Nodes.{few_entries}
 use Rattle.qptr.specs.declared.Kind.{Kind}
 use Rattle.qptr.specs.declared.Kind.TheVariants.{OffsetBase}
 use Rattle.qptr.specs.Values.{command_of, kind_of}
 use Rattle.qptr.proofs.Nodes.{kind_head, map_command}
-use Rattle.qptr.proofs.Usages.{count_nodes}
 use Rattle.records.specs.Records.{command_in, child_in, argument_in}
 use Rattle.record_links.specs.Standing.{Stands, Row}
 use Rattle.record_links.proofs.Stands.{stands_root}
@@ -32,7 +32,7 @@ map_listed s q c x P ec e3 ex =
       lo = suc (P.rank q);
       hi = P.hi;
       row = subst (λ (y : ℕ). Row M.0 s y 0 P.rank (suc (P.rank q)) P.hi) (sym ex) M.3;
-      small = omega (arith, P.small, ap nodes M.1, count_nodes M.0);
+      small = omega (arith, P.small, ap nodes M.1, few_entries M.0);
     }
 
 pub argument_counted : (s : List ℕ) (q : ℕ) (c : Kind) (x r : ℕ) → c ≡ kind_of (command_in s q) → c ≡ OffsetBase → x ≡ child_in s q → CountIs s x r → ArgumentIs s q r

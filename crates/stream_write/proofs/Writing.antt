@@ -10,6 +10,7 @@ use Rattle.definitions.specs.Usage.{Size, Usage, unused, leaf, map, array, Entri
 use Rattle.definitions.specs.Command.{head_of}
 use Rattle.definitions.specs.Stream.{bytes, write_head, write_node, write_entries}
 use Rattle.definitions.proofs.Numbers.{bytes_length}
+use Rattle.definitions.proofs.Nodes.{few_entries}
 use Rattle.qptr.specs.declared.Kind.{Kind}
 use Rattle.qptr.specs.declared.Kind.TheVariants.{OffsetBase, DynOffsetBase}
 use Rattle.qptr.specs.Values.{kind_of}
@@ -23,7 +24,6 @@ use Rattle.record_links.proofs.Weights.{nodes_at_lem}
 use Rattle.record_links.proofs.Shapes.{map_of, array_of}
 use Rattle.stream_write.specs.Writing.{Readable}
 use Rattle.stream_write.proofs.Counting.{row_less}
-use Rattle.qptr.proofs.Usages.{count_nodes}
 
 -- A node alone, an array
 
@@ -236,4 +236,4 @@ module _ {Done : List ℕ → Type 0} (s : List ℕ) (q i base limit : ℕ) (W :
   pub writing_less : (i' : ℕ) → i' ≡ next_in s i → chain 65536 s i' < chain 65536 s i
   writing_less i' e =
       let S = W.of B.entries P.rank (suc (P.rank q)) P.hi B.row in
-      row_less S.left s i i' P.rank S.m P.hi ne e (omega (arith, count_nodes S.left, S.fewer, B.many, P.small)) S.row
+      row_less S.left s i i' P.rank S.m P.hi ne e (omega (arith, few_entries S.left, S.fewer, B.many, P.small)) S.row

@@ -3,14 +3,14 @@
 -- Assumes nothing.
 use Rattle.std.proofs.Common.{◌≡◌, ℕ, suc, ◌+◌, ◌<◌, List, sym, ap, ◌∙◌, subst, arith}
 use Rattle.definitions.specs.Limits.{node_limit}
-use Rattle.definitions.specs.Usage.{Entries, count, nodes, nodes_in}
-use Rattle.qptr.proofs.Usages.{count_nodes}
+use Rattle.definitions.specs.Usage.{Entries, nodes, nodes_in}
+use Rattle.definitions.proofs.Nodes.{few_entries}
 use Rattle.records.specs.Records.{command_in, next_in, child_in}
 use Rattle.record_links.specs.Standing.{Row}
 use Rattle.record_links.specs.Rows.{chain, nodes_at}
 use Rattle.record_links.proofs.Stands.{stands_root}
 use Rattle.record_links.proofs.Rows.{Head, head}
-use Rattle.record_links.proofs.Chains.{chain_many}
+use Rattle.record_links.proofs.Chains.{row_falls}
 use Rattle.record_links.proofs.Weights.{nodes_at_lem}
 use Rattle.record_links.proofs.Shapes.{map_of, array_of}
 use Rattle.support_cache.specs.Nodes.{UsageAt, Unchanged, Along, Child}
@@ -127,6 +127,4 @@ module _ {s : List ℕ} {q e : ℕ} (L : Linked s q e) (ne : e ≡ 0 → ⊥) wh
 
     pub chain_falls : chain 65536 s n < chain 65536 s e
     chain_falls =
-        let a = chain_many 65536 L.left s e L.rank L.lo L.hi (omega (arith, count_nodes L.left, L.few)) L.row in
-        let b = chain_many 65536 H.rest s (next_in s e) L.rank H.m L.hi (omega (arith, count_nodes H.rest, parts, L.few)) H.row in
-        omega (arith, a, b, ap (chain 65536 s) x, ap count H.is)
+        omega (arith, row_falls L.left s e L.rank L.lo L.hi (omega (arith, few_entries L.left, L.few)) ne L.row, ap (chain 65536 s) x)

@@ -6,9 +6,9 @@ use Rattle.definitions.specs.Command.{head_of}
 use Rattle.records.specs.Records.{command_in, size_in}
 use Rattle.record_links.specs.Standing.{Stands}
 use Rattle.record_links.proofs.Stands.{stands_root}
+use Rattle.record_links.proofs.Shapes.{kind_says}
 use Rattle.qptr.specs.Values.{command_of, kind_of}
 use Rattle.qptr.specs.declared.Kind.{Kind}
-use Rattle.qptr.proofs.Nodes.{kind_head}
 use Rattle.support_cache.specs.Nodes.{UsageAt}
 
 module _ (u : Usage) (s : List ℕ) (q : ℕ) (r : ℕ → ℕ) (lo hi : ℕ) (a : Stands u s q r lo hi) where
@@ -43,9 +43,7 @@ on_array P s q r lo hi k f =
 
 -- its record has a node's command, so its kind says which
 pub command_of_kind : (u : Usage) (s : List ℕ) (q : ℕ) (r : ℕ → ℕ) (lo hi : ℕ) {k : Kind} → Stands u s q r lo hi → k ≡ kind_of (command_in s q) → (v : Kind) → k ≡ v → command_in s q ≡ command_of v
-command_of_kind u s q r lo hi a x v e =
-    let root = root_command u s q r lo hi a in
-    root ∙ kind_head _ u (x ∙ ap kind_of root) ∙ ap command_of e
+command_of_kind u s q r lo hi {k} a x v e = kind_says u s q r lo hi k x a ∙ ap command_of e
 
 module _ {s : List ℕ} {q : ℕ} {k : Kind} (w : UsageAt s q) (x : k ≡ kind_of (command_in s q)) where
   pub command_is : (v : Kind) → k ≡ v → command_in s q ≡ command_of v

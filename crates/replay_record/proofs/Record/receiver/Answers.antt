@@ -4,12 +4,13 @@ use mathlib.Core.Path.{◌≡◌, sym, ◌∙◌}
 use Rattle.std.proofs.lemmas.Bool.Decides.{Decides-eqb}
 use Rattle.std.proofs.lemmas.Slice.Eq.{slice_eq-Decides}
 use Rattle.replay_record.specs.Agrees.{nobody, the_first, the_second}
-use Rattle.replay_record.proofs.Agreeing.{empty, handed}
+use Rattle.std.proofs.lemmas.List.{nil_from_length}
+use Rattle.replay_record.proofs.Agreeing.{handed}
 use Rattle.replay_record.proofs.Record.receiver.Goals as goal
 
 pub returns-in-0 : goal.returns-in-0
 returns-in-0 c = λ e.
-    handed _ _ _ c.get32.ensures c.receiver-got.ensures (rw (c.in-0.is, empty _ (eqb-true _ _ (sym c.is_empty.ensures ∙ e))) nobody)
+    handed _ _ _ c.get32.ensures c.receiver-got.ensures (rw (c.in-0.is, nil_from_length _ (eqb-true _ _ (sym c.is_empty.ensures ∙ e))) nobody)
 
 pub returns-in-1 : goal.returns-in-1
 returns-in-1 c = λ e.
