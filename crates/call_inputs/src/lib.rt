@@ -24,7 +24,7 @@ pub struct Nodes {
     pub second: usize,
 }
 
-// The types of a table, where whose records start is then in `starts`; or refusal 1 or 2.
+// How many types a table has, where its records start being then in `starts`; or refusal 1 or 2.
 pub fn accept_table(table: &[u8], work: &[u8], starts: &mut [u32]) -> Result<usize, Refusal>
     requires { Room table.now starts.old }
     ensures { TableMet table.now (length work.now) starts.new result }

@@ -1,6 +1,6 @@
 // The calls over numbers that are lent for where the table's records start: refusals in their order, then the answer. Their parameters are
-// those of the calls for C, one by one, since each goes on to another function; and of a struct with output and report each function that writes would have to
-// promise that it holds the same two buffers still.
+// those of the calls for C, one by one, since each goes on to another function; and of a struct with output and report each function that
+// writes would have to promise that it holds the same two buffers still.
 
 ghost use Rattle.std.specs.Prelude.{◌≡◌, length};
 ghost use Rattle.definitions.specs.Limits.{work_limit};
