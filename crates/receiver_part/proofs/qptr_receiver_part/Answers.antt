@@ -1,0 +1,5 @@
+-- `qptr_receiver_part` meets its contract. The check finds this alone; written out, it also fails soon.
+use Rattle.receiver_part.proofs.qptr_receiver_part.Goals as goal
+
+pub returns : goal.returns
+returns c = c.receiver-part.ensures
