@@ -47,7 +47,7 @@ if [ -d "${SPIRT_SRC:-../shared/docs/src}" ] || [ -n "${REQUIRE_RUST_SOURCE:-}" 
   cargo run "${judge[@]}" -- ci
   cargo run "${judge[@]}" -- compare --sides reference,library --count 20000
   cargo run "${judge[@]}" -- questions
-  bash differential/definitions.sh
+  JUDGE=${CARGO_TARGET_DIR:-differential/target}/release/differential bash differential/definitions.sh
 else
   echo "test.sh: NOT COMPARED WITH THE RUST: its source is not there; differential/README.md says where it is looked for" >&2
 fi

@@ -1,6 +1,6 @@
 #!/usr/bin/env bash
 # The definitions held against the Rust, by computation: recorded and generated calls as theorems, all of which must be proved.
-# Options (--count N, --seed N) go to the command `theorems`.
+# Options (--count N, --seed N) go to the command `theorems`; JUDGE names the harness where it is built already.
 set -euo pipefail
 cd "$(dirname "$0")/.."
 
@@ -13,7 +13,9 @@ mkdir -p "$folder/crates/definitions/proofs"
 cp -R crates/definitions/src crates/definitions/specs "$folder/crates/definitions/"
 : >"$folder/crates/definitions/proofs/Lib.antt"
 printf 'definitions:\nrecorded_rows: definitions\n' >"$folder/crates.txt"
-rows=$(cargo run --release --quiet --manifest-path differential/Cargo.toml -- theorems "$folder" "$@")
+judge=(cargo run --release --quiet --manifest-path differential/Cargo.toml --)
+if [ -n "${JUDGE:-}" ]; then judge=("$JUDGE"); fi
+rows=$("${judge[@]}" theorems "$folder" "$@")
 
 # Many rows refuse a wrong definition at once: the first lines say enough.
 said=$folder/said
