@@ -34,7 +34,12 @@ fn area() -> usize
 const NOTHING: Option<Found> = Some(Found { nodes: 0, types: 0 });
 
 // Is the usage of a Memory stream sound? It is loaded into the work area, whose contents do not matter.
-pub fn sound(table: &[u8], work: &mut [u8], starts: &mut [u32], s: &[u8]) -> Result<bool, Refusal>
+pub(super) fn sound(
+    table: &[u8],
+    work: &mut [u8],
+    starts: &mut [u32],
+    s: &[u8],
+) -> Result<bool, Refusal>
     requires { Room table.now starts.old }
     ensures { said_of result ≡ sound_call table.now (length work.old) s.now }
 {
@@ -46,7 +51,7 @@ pub fn sound(table: &[u8], work: &mut [u8], starts: &mut [u32], s: &[u8]) -> Res
 
 // Does a type, at an offset, support the usage of a Memory stream? It is loaded as for `sound`. The asked type is needed as those of the stream
 // are. `call_inputs::accept` does not do here, since refusal 6 comes between its 5 and its 7.
-pub fn supports(
+pub(super) fn supports(
     table: &[u8],
     work: &mut [u8],
     starts: &mut [u32],
@@ -93,7 +98,7 @@ fn place_loaded(
 }
 
 // The second Memory is put into the first at an offset.
-pub fn place(
+pub(super) fn place(
     table: &[u8],
     work: &mut [u8],
     starts: &mut [u32],
@@ -150,7 +155,7 @@ fn merge_loaded(
 }
 
 // Two Buffers or two Memories are merged; of others the first stays.
-pub fn merge(
+pub(super) fn merge(
     table: &[u8],
     work: &mut [u8],
     starts: &mut [u32],
@@ -200,7 +205,7 @@ fn fold_loaded(
 }
 
 // The nodes of a list, merged one after the other.
-pub fn fold(
+pub(super) fn fold(
     table: &[u8],
     work: &mut [u8],
     starts: &mut [u32],
