@@ -1,6 +1,6 @@
 -- What an answer stands for.
 -- Assumes nothing.
-use Rattle.std.specs.Prelude.{ℕ, Bool, false, [], Result as Returned, Ok, Err}
+use Rattle.std.specs.Prelude.{ℕ, Bool, true, false, [], Result as Returned, Ok, Err}
 use Rattle.definitions.specs.Place.{done}
 use Rattle.definitions.specs.Calls.{Answer as Told, refusal, said}
 use Rattle.place_states.specs.Refusals.{number_of as size_number}
@@ -20,6 +20,11 @@ number_of ManyNodes = 7
 number_of (Size e) = size_number e
 number_of ShortOutput = 10
 number_of ShortReport = 11
+
+-- yes or no as a number of an answer
+abbrev pub bit : Bool → ℕ
+bit false = 0
+bit true = 1
 
 abbrev pub answer_of : Answer → Told
 answer_of a = record { number = a.number; yes = a.yes; usage = a.usage; report = a.report; pairings = a.pairings }

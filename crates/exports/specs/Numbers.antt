@@ -3,6 +3,7 @@
 use Rattle.std.specs.Prelude.{ℕ, ◌≡◌, Bool, true, false, List, [], ◌∷◌}
 use Rattle.std.proofs.Math.Option.{Option, none as nothing, some}
 use Rattle.definitions.specs.Calls.{Answer, Written}
+use Rattle.call_answers.specs.Answers.{bit}
 use Rattle.calls.specs.Promised.{Promised}
 
 -- nobody receives, the first stream or the second
@@ -10,10 +11,6 @@ abbrev pub number_of : Option Bool → ℕ
 number_of nothing = 0
 number_of (some true) = 1
 number_of (some false) = 2
-
-abbrev pub bit : Bool → ℕ
-bit false = 0
-bit true = 1
 
 -- number, yes or no, usage length, report length, pairings
 abbrev pub numbers_of : Answer → List ℕ

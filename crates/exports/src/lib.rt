@@ -3,9 +3,9 @@
 
 ghost use Rattle.std.specs.Prelude.{◌≡◌, length};
 ghost use Rattle.definitions.specs.Calls.{receiver_of, sound_call, supports_call, place_call, merge_call, fold_call};
-ghost use Rattle.call_answers.specs.Answers.{answer_of};
+ghost use Rattle.call_answers.specs.Answers.{answer_of, bit};
 ghost use Rattle.calls.specs.Received.{first_of, answered};
-ghost use Rattle.exports.specs.Numbers.{number_of, bit, numbers_of, ReturnsNumbers, ReturnsPromised};
+ghost use Rattle.exports.specs.Numbers.{number_of, numbers_of, ReturnsNumbers, ReturnsPromised};
 
 use call_answers::Answer;
 use calls::Received;

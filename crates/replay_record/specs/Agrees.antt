@@ -1,9 +1,10 @@
 -- What a record says (differential/README.md, "The recorded answers"), and that it is what the definition of its call gives.
 -- Assumes nothing.
-use Rattle.std.specs.Prelude.{ℕ, ◌+◌, ◌≤◌, ◌≡◌, Bool, true, false, List, [], eqb, get_or, take, drop, replicate, Option as Maybe, None, Some}
+use Rattle.std.specs.Prelude.{ℕ, ◌+◌, ◌≤◌, ◌≡◌, List, [], eqb, get_or, take, drop, replicate, Option as Maybe, None, Some}
 use Rattle.definitions.specs.If.{when◌then◌else◌}
 use Rattle.definitions.specs.Calls.{Answer, Written, receiver_call, supports_call, place_call, merge_call, fold_call, sound_call}
 use Rattle.numbers.specs.Words.{word}
+use Rattle.call_answers.specs.Answers.{bit}
 use Rattle.replay_record.specs.Parts.{Recorded, Recording, Begins}
 use Rattle.replay_record.specs.declared.Counts.{Counts}
 
@@ -12,10 +13,6 @@ abbrev pub output_in : Recorded → List ℕ
 output_in r = replicate (word r.tail 0) (get_or r.tail 4 0)
 
 -- Its answer
-
-abbrev pub bit : Bool → ℕ
-bit false = 0
-bit true = 1
 
 -- the five numbers at a place
 pub record Says (s : List ℕ) (at : ℕ) (a : Answer) : Type 0 where
