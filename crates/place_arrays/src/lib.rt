@@ -3,7 +3,8 @@
 
 ghost use Rattle.std.specs.Prelude.{◌≡◌, ◌+◌, ◌*◌, ◌≤◌, length};
 ghost use Rattle.definitions.specs.Place.{fits_stride, stride_conflict};
-ghost use Rattle.qptr.specs.Values.{size_of};
+ghost use Rattle.qptr.specs.Values.{command_of, size_of};
+ghost use Rattle.qptr.specs.declared.Kind.TheVariants.{DynOffsetBase};
 ghost use Rattle.records.specs.Records.{command_in};
 ghost use Rattle.report.specs.Emitted.{Emitted};
 ghost use Rattle.place_states.specs.Calls.{Beside};
@@ -42,7 +43,7 @@ pub enum Meeting {
 
 fn meeting_of(s: &[u8], a: usize, d: u32, b: usize) -> Meeting
     requires beside { Beside s.now a b }
-    requires a_value { command_in s.now a ≡ 4 }
+    requires array { command_in s.now a ≡ command_of DynOffsetBase }
     ensures { Meets s.now a d b result }
 {
     let stride = argument(s, a);
@@ -95,7 +96,7 @@ fn stride_conflict(report: &mut Report<'_>, stride: u32)
 pub fn begin_array(s: &[u8], a: usize, d: u32, b: usize, report: &mut Report<'_>) -> State
     requires beside { Beside s.now a b }
     requires plain { Plain (command_in s.now b) d }
-    requires a_value { command_in s.now a ≡ 4 }
+    requires array { command_in s.now a ≡ command_of DynOffsetBase }
     ensures { Starts s.now a d b report.old s.now report.new (Ok result) }
 {
     match meeting_of(s, a, d, b) {
@@ -111,7 +112,7 @@ pub fn begin_array(s: &[u8], a: usize, d: u32, b: usize, report: &mut Report<'_>
 // The element has become record x.
 pub fn next_element(s: &mut [u8], a: usize, st: State) -> State
     requires waiting { Waiting s.old a st }
-    requires rule_value { st.rule ≡ Rule.Element }
+    requires rule { st.rule ≡ Rule.Element }
     ensures { Wrapped s.old a st s.new result }
 {
     put_child(s, a, st.x);

@@ -2,6 +2,8 @@
 #![tactic(auto)]
 
 ghost use Rattle.std.specs.Prelude.{◌≡◌};
+ghost use Rattle.qptr.specs.Values.{command_of};
+ghost use Rattle.qptr.specs.declared.Kind.TheVariants.{OffsetBase};
 ghost use Rattle.records.specs.Records.{command_in};
 ghost use Rattle.place_states.specs.Calls.{Beside};
 ghost use Rattle.place_states.specs.States.{Waiting, Moves};
@@ -14,7 +16,7 @@ use report::Report;
 // The result so far is record x; the next entry goes into it.
 pub fn next_entry(s: &[u8], a: usize, st: State, report: &mut Report<'_>) -> State
     requires waiting { Waiting s.now a st }
-    requires rule_value { st.rule ≡ Rule.Entries }
+    requires rule { st.rule ≡ Rule.Entries }
     ensures { Moves s.now report.old a st s.now report.new result }
 {
     let q = st.rest;
@@ -39,7 +41,7 @@ pub fn next_entry(s: &[u8], a: usize, st: State, report: &mut Report<'_>) -> Sta
 // b, a map, is placed at 0 in a, which is the result so far.
 pub fn begin_entries(s: &[u8], a: usize, b: usize, report: &mut Report<'_>) -> State
     requires beside { Beside s.now a b }
-    requires b_value { command_in s.now b ≡ 3 }
+    requires map { command_in s.now b ≡ command_of OffsetBase }
     ensures { Starts s.now a 0 b report.old s.now report.new (Ok result) }
 {
     let base = report.at;

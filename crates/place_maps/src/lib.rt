@@ -3,6 +3,8 @@
 #![tactic(auto)]
 
 ghost use Rattle.std.specs.Prelude.{◌≡◌, ◌+◌, ◌*◌, ◌<◌, ◌≤◌, length};
+ghost use Rattle.qptr.specs.Values.{command_of};
+ghost use Rattle.qptr.specs.declared.Kind.TheVariants.{OffsetBase};
 ghost use Rattle.records.specs.Records.{command_in};
 ghost use Rattle.place_states.specs.Calls.{Beside};
 ghost use Rattle.place_states.specs.States.{Waiting, Moves};
@@ -83,8 +85,8 @@ fn insert(s: &mut [u8], a: usize, low: usize, b: usize, o: u32)
 fn end_join(s: &mut [u8], a: usize, st: State, report: &mut Report<'_>) -> State
     requires waiting { Waiting s.old a st }
     requires within { Within s.old a st }
-    requires rule_value { st.rule ≡ Rule.Join }
-    requires rest_value { st.rest ≡ 0 }
+    requires rule { st.rule ≡ Rule.Join }
+    requires none_left { st.rest ≡ 0 }
     ensures { Moves s.old report.old a st s.new report.new result }
 {
     let b = st.x;
@@ -101,8 +103,8 @@ fn end_join(s: &mut [u8], a: usize, st: State, report: &mut Report<'_>) -> State
 fn straddle(s: &mut [u8], a: usize, st: State, o: u32, report: &mut Report<'_>) -> State
     requires waiting { Waiting s.old a st }
     requires within { Within s.old a st }
-    requires rule_value { st.rule ≡ Rule.Join }
-    requires fact { st.rest ≡ 0 → ⊥ }
+    requires rule { st.rule ≡ Rule.Join }
+    requires some_left { st.rest ≡ 0 → ⊥ }
     ensures { Straddled s.old report.old a st o s.new report.new result }
 {
     let left = next(s, st.rest);
@@ -131,7 +133,7 @@ fn join(s: &[u8], pair: State, o: u32, report: &mut Report<'_>) -> State
 // and must end no earlier than it.
 pub fn next_join(s: &mut [u8], a: usize, st: State, report: &mut Report<'_>) -> State
     requires waiting { Waiting s.old a st }
-    requires rule_value { st.rule ≡ Rule.Join }
+    requires rule { st.rule ≡ Rule.Join }
     ensures { Moves s.old report.old a st s.new report.new result }
 {
     let entry = st.rest;
@@ -186,7 +188,7 @@ pub fn begin_join(
 ) -> Result<State, SizeRefusal>
     requires beside { Beside s.old a b }
     requires plain { Plain (command_in s.old b) d }
-    requires a_value { command_in s.old a ≡ 3 }
+    requires map { command_in s.old a ≡ command_of OffsetBase }
     ensures { Starts s.old a d b report.old s.new report.new result }
 {
     let e = end_at(s, b, d);

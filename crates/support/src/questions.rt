@@ -1,7 +1,8 @@
 // The questions that lead to others: of a type's components, of a map's entries, and of an array's element.
 ghost use Rattle.std.specs.Prelude.{◌≡◌, true, false, ◌+◌, ◌*◌, ◌<◌, ◌≤◌, length, IfSome, MatchOption};
 ghost use Rattle.definitions.specs.Support.{same_length};
-ghost use Rattle.qptr.specs.Values.{size_of};
+ghost use Rattle.qptr.specs.Values.{command_of, size_of};
+ghost use Rattle.qptr.specs.declared.Kind.TheVariants.{Unused, OffsetBase, DynOffsetBase};
 ghost use Rattle.records.specs.Records.{command_in};
 ghost use Rattle.support_cache.specs.Cached.{Recollects};
 ghost use Rattle.support.specs.Askable.{ConcreteType, Askable, ConcreteAskable, ComponentsOf};
@@ -57,7 +58,7 @@ fn entries_supported(
 ) -> bool
     requires concrete_askable { ConcreteAskable table.now ty s.old q }
     requires cache_true { CacheTrue table.now s.old q cached.old }
-    requires q_value { command_in s.old q ≡ 3 }
+    requires map { command_in s.old q ≡ command_of OffsetBase }
     ensures entries_supported { EntriesSupported table.now ty at s.old q result }
     ensures kept { Kept table.now s.old s.new cached.old cached.new }
 {
@@ -119,7 +120,7 @@ fn elements_supported(
 ) -> bool
     requires askable { Askable table.now array.elem s.old q }
     requires cache_true { CacheTrue table.now s.old q cached.old }
-    requires stride_nonzero { (0 < array.stride) × (command_in s.old q ≡ 4) }
+    requires stride_nonzero { (0 < array.stride) × (command_in s.old q ≡ command_of DynOffsetBase) }
     ensures elements_supported { ElementsSupported table.now array at s.old q result }
     ensures kept { Kept table.now s.old s.new cached.old cached.new }
 {
@@ -160,7 +161,7 @@ fn itself_supports(
 ) -> bool
     requires concrete_askable { ConcreteAskable table.now ty s.old q }
     requires cache_true { CacheTrue table.now s.old q cached.old }
-    requires fact { command_in s.old q ≡ 0 → ⊥ }
+    requires not_unused { command_in s.old q ≡ command_of Unused → ⊥ }
     ensures itself_supports { ItselfSupports table.now ty at s.old q result }
     ensures kept { Kept table.now s.old s.new cached.old cached.new }
 {

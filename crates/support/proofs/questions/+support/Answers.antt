@@ -1,13 +1,23 @@
 -- Each step of support takes an earlier type or a smaller usage: the measure is the type and the nodes of the usage, and the
 -- functions that hand both on come in the order of their calls. What is remembered stays true on the way.
 use borrow.Author.Rules.{rules}
-use borrow.Author.Tests.{not-false}
-use mathlib.Core.Path.{◌∙◌}
+use Prim.Native.Nat.{ℕ, zero, suc, ◌+◌, ◌<◌}
+use borrow.Author.Tests.{ne_eqb, le-leb, lt-leb}
+use mathlib.Core.Path.{◌≡◌, refl, ◌∙◌}
+use mathlib.Core.Bool.{Bool, false}
+use mathlib.Core.List.{List}
+use lib.Dec.{eqb}
 use native.Mathlib.Omega.{arith}
+use Rattle.definitions.specs.Usage.{Usage}
+use Rattle.definitions.specs.Table.{Setting, Components as Parts}
+use Rattle.definitions.specs.Support.{Asking, entry_supported, supports}
+use Rattle.records.specs.Records.{offset_in}
+use Rattle.layout.specs.declared.table.Table.{Table}
 use Rattle.layout.proofs.Uses.{component_below}
 use Rattle.support_cache.specs.Nodes.{Child}
 use Rattle.support_cache.proofs.Staying.{unchanged_both, next_stays}
 use Rattle.support_cache.proofs.Linked.{nodes_stay, element_usage, element_smaller, first_linked, next_linked, chain_falls, entry_usage, entry_smaller, entry_child}
+use Rattle.support.specs.Supported.{OfEach, InLayout, Says}
 use Rattle.support.proofs.Types.{asks_earlier}
 use Rattle.support.proofs.Components.{asked_first, one_asked, more_asked}
 use Rattle.support.proofs.Entries.{walk_starts, walk_goes_on, walk_stops, walk_ends, asks_entry}
@@ -41,10 +51,12 @@ any_component_supports-loop-component-preserved t c =
     }
 
 pub elements_supported-returns-then-stride-argument-clause-elements_supported : goal.elements_supported-returns-then-stride-argument-clause-elements_supported
-elements_supported-returns-then-stride-argument-clause-elements_supported t c = search (other_stride, rules)
+elements_supported-returns-then-stride-argument-clause-elements_supported t c = other_stride c.argument.ensures c.if-stride-argument.true
 
 pub elements_supported-returns-then-not-same_length-clause-elements_supported : goal.elements_supported-returns-then-not-same_length-clause-elements_supported
-elements_supported-returns-then-not-same_length-clause-elements_supported t c = search (other_length, rules)
+elements_supported-returns-then-not-same_length-clause-elements_supported t c =
+    other_length c.argument.ensures c.if-stride-argument.false c.if-at-stride-ne0.false c.max_size.ensures c.same_length.ensures
+    c.if-not-same_length.true
 
 pub elements_supported-supports_inside-requires : goal.elements_supported-supports_inside-requires
 elements_supported-supports_inside-requires t c =
@@ -53,7 +65,12 @@ elements_supported-supports_inside-requires t c =
     let x = c.child-e.ensures in (omega (arith, element_smaller k w x), (record { type = c.requires.askable.type; usage = element_usage k w x }, (memory_part (Child.element k c.child-e.ensures.0) c.requires.cache_true, not_parts)))
 
 pub elements_supported-returns-clause-elements_supported : goal.elements_supported-returns-clause-elements_supported
-elements_supported-returns-clause-elements_supported t c = search (by_element, whole_says, not-false, rules)
+elements_supported-returns-clause-elements_supported t c =
+    let x = c.argument.ensures in
+    let same = c.if-stride-argument.false in
+    let starts = c.if-at-stride-ne0.false in
+    by_element x same starts c.max_size.ensures c.same_length.ensures c.if-not-same_length.false c.child-e.ensures
+    (whole_says c.supports_inside.ensures.says)
 
 pub entries_supported-loop-e-init : goal.entries_supported-loop-e-init
 entries_supported-loop-e-init t c = record { linked = search (first_linked, rules); walked = search (walk_starts, rules); turned = turned_none }
@@ -64,7 +81,7 @@ entries_supported-entry_supported-requires t c =
     let K = I.turned.kept in
     let ne = c.loop-e-test.true in (
       omega (arith, nodes_stay K.records (entry_usage I.linked ne), entry_smaller I.linked ne),
-      (concrete_after K.records (asks_entry I.linked ne c.requires.concrete_askable), memory_after K (memory_part (entry_child I.linked ne c.requires.q_value) c.requires.cache_true)),
+      (concrete_after K.records (asks_entry I.linked ne c.requires.concrete_askable), memory_after K (memory_part (entry_child I.linked ne c.requires.map) c.requires.cache_true)),
     )
 
 pub entries_supported-returns-then-not-entry_supported-clause-entries_supported : goal.entries_supported-returns-then-not-entry_supported-clause-entries_supported
@@ -149,3 +166,30 @@ supports_past_tests-returns-then-any_component_supports-clause-says t c =
 pub supports_past_tests-returns-then-whole-clause-says : goal.supports_past_tests-returns-then-whole-clause-says
 supports_past_tests-returns-then-whole-clause-says t c =
     itself_says c.requires.left_open c.any_component_supports.ensures.component_supports c.if-any_component_supports.false c.if-whole.true (itself_before c.any_component_supports.ensures.kept.records c.itself_supports.ensures.itself_supports)
+
+-- an entry's sum past 32 bits is no offset, and any other asks of the whole layout at 0, else of its components
+
+past_32 : (st : Setting) (ask : Asking) (ty : ℕ) (cs : Parts) (n : ℕ) (u : Usage) → (n < 4294967296 → ⊥) → false ≡ entry_supported st ask ty cs n u
+past_32 st ask ty cs zero u h = absurd (h (omega arith))
+past_32 st ask ty cs (suc m) u h = rw (lt-leb (suc m) 4294967295 (omega (arith, h))) refl
+
+module _ {table : Table} {ty : ℕ} {s : List ℕ} {q : ℕ} {v : Bool} where
+  by_sum : (n : ℕ) → n < 4294967296 → Says table ty n s q (eqb n 0) v →
+      InLayout table ty λ st cs. OfEach s q λ u. v ≡ entry_supported st (supports st) ty cs n u
+  by_sum zero l S st k b n d cs i u r lo hi a = (S.layout refl).is st k b u r lo hi a
+  by_sum (suc m) l S st k b n d cs i u r lo hi a =
+      rw (le-leb (suc m) 4294967295 (omega (arith, l))) ((S.components (ne_eqb (suc m) 0 (omega arith))).is st k b n d cs i u r lo hi a)
+
+pub entry_supported-returns-in_default-clause-entry_supported : goal.entry_supported-returns-in_default-clause-entry_supported
+entry_supported-returns-in_default-clause-entry_supported t c = record {
+  is = λ st k b n d cs i u r lo hi a.
+      past_32 st (supports st) c.args.ty cs (c.args.at + offset_in c.args.s.now c.args.e) u (rw (← c.offset.ensures) c.in_default.ensures);
+}
+
+pub entry_supported-returns-clause-entry_supported : goal.entry_supported-returns-clause-entry_supported
+entry_supported-returns-clause-entry_supported t c =
+    let sum = c.in-Some.ensures in
+    let S = c.supports_inside.ensures.says in
+    record {
+      is = λ st k b n d cs i u r lo hi a. rw (← c.offset.ensures, ← sum.1) (by_sum c.in-Some.sum (rw sum.1 sum.0) S st k b n d cs i u r lo hi a);
+    }
