@@ -1,5 +1,5 @@
 -- Both call on fewer nodes, or merging on the same: the measure counts the nodes of both sides twice, and merging once more. The loop keeps its goal ahead.
-use Rattle.std.proofs.Common.{ℕ, rules, arith}
+use Rattle.std.proofs.Common.{ℕ, arith}
 use Rattle.std.specs.Prelude.{Ok}
 use Rattle.place_states.specs.Calls.{Placed}
 use Rattle.std.proofs.lemmas.Result.{err_from_is_err_and}
@@ -9,14 +9,16 @@ use Rattle.analyze.proofs.+merging.Goals as goal
 use Rattle.analyze.proofs.+merging.Goals.{merge_mem_at-After-take_result-st, merge_mem_at-in-Place+in_ok-r-in-Place, merge_mem_at-in-Merge+in_ok-r-in-Merge}
 
 pub merge_mem-returns-then-first_receives : goal.merge_mem-returns-then-first_receives
-merge_mem-returns-then-first_receives t c = search (merged_left, rules)
+merge_mem-returns-then-first_receives t c =
+    merged_left c.root.ensures c.root-2.ensures c.first_receives.ensures c.if-first_receives.true c.merge_mem_at.ensures
 
 pub merge_mem-merge_mem_at-requires-2 : goal.merge_mem-merge_mem_at-requires-2
 merge_mem-merge_mem_at-requires-2 t c =
     (omega (arith, c.decreases), (ready_swap c.requires.ready, omega (arith, c.requires.near)))
 
 pub merge_mem-returns : goal.merge_mem-returns
-merge_mem-returns t c = search (merged_right, rules)
+merge_mem-returns t c =
+    merged_right c.root.ensures c.root-2.ensures c.first_receives.ensures c.if-first_receives.false c.merge_mem_at-2.ensures
 
 pub merge_mem_at-returns-in_err-st : goal.merge_mem_at-returns-in_err-st
 merge_mem_at-returns-in_err-st t c =

@@ -12,7 +12,7 @@ use Rattle.call_fold.proofs.fold_nodes.Goals as goal
 use Rattle.call_fold.proofs.fold_nodes.Goals.{After-of-width}
 
 width : (c : After-of-width) → c.of-width.result.argument ≡ argument_width 0x0B
-width c = ap (λ (r : Command). r.argument) c.of-width.ensures
+width c = omega (arith, ap (λ (r : Command). r.argument) c.of-width.ensures)
 
 pub number-count-requires : goal.number-count-requires
 number-count-requires c = count_inside c.requires.foldable (width (goal.at.number-count-requires c).After-of-width)

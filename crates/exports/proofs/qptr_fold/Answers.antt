@@ -1,4 +1,4 @@
--- `qptr_fold` meets its contract. The check finds this alone; written out, it also fails soon.
+-- `qptr_fold` meets its contract. The check finds this alone; written out, a wrong answer fails soon.
 use Rattle.exports.proofs.Leaving.{left, kept}
 use Rattle.exports.proofs.qptr_fold.Goals as goal
 

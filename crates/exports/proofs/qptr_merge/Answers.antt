@@ -1,4 +1,4 @@
--- `qptr_merge` meets its contract. The check finds this alone; written out, it also fails soon.
+-- `qptr_merge` meets its contract. The check finds this alone; written out, a wrong answer fails soon.
 use Rattle.exports.proofs.Leaving.{left}
 use Rattle.exports.proofs.qptr_merge.Goals as goal
 

@@ -1,4 +1,4 @@
--- `qptr_place` meets its contract. The check finds this alone; written out, it also fails soon.
+-- `qptr_place` meets its contract. The check finds this alone; written out, a wrong answer fails soon.
 use Rattle.exports.proofs.Leaving.{left}
 use Rattle.exports.proofs.qptr_place.Goals as goal
 

@@ -1,4 +1,4 @@
--- `qptr_sound` meets its contract. The check finds this alone; written out, it also fails soon.
+-- `qptr_sound` meets its contract. The check finds this alone; written out, a wrong answer fails soon.
 use Rattle.exports.proofs.Leaving.{told}
 use Rattle.exports.proofs.qptr_sound.Goals as goal
 

@@ -1,5 +1,5 @@
 -- `place_search::cut_in` meets its contract. At most 511 entries are linked, so 512 rows are not all filled.
-use Rattle.std.proofs.Common.{arith}
+use Rattle.std.proofs.Common.{◌∙◌, arith}
 use Rattle.std.proofs.lemmas.List.{length-replicate}
 use Rattle.place_search.proofs.Filling.{fill_start, fill_within, fill_inside, fill_small, fill_more, cuts}
 use Rattle.place_search.proofs.LastEnding.{top_front}
@@ -17,7 +17,7 @@ returns-then-not-starts_before-clause-cuts g c =
     let fill = c.loop-k.invariant in
     let rows = fill.long in
     let low = top_front c.loop-k.k c.loop-k.t c.args.range.start (omega arith) in
-    cuts fill c.starts_before.ensures c.if-not-starts_before.true (cc)
+    cuts fill c.starts_before.ensures c.if-not-starts_before.true (c.from.ensures ∙ c.last_ending_by.ensures ∙ low)
 
 pub at-requires : goal.at-requires
 at-requires g c = (search (fill_inside, rules), search (fill_small, rules))
@@ -27,3 +27,6 @@ next-p-requires g c = search (fill_inside, rules)
 
 pub loop-k-preserved : goal.loop-k-preserved
 loop-k-preserved g c = search (fill_more, rules)
+
+pub returns-clause-cuts : goal.returns-clause-cuts
+returns-clause-cuts g c = tt

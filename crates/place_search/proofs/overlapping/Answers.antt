@@ -1,23 +1,23 @@
 -- `place_search::overlapping` meets its contract: the entries up to the finger are below if it starts before e and ends by d.
-use borrow.Author.Rules.{rules}
 use Rattle.place_search.proofs.Linking.{listed_linked}
 use Rattle.place_search.proofs.Skipping.{finger_within, finger_inside, finger_linked, parts_finger, parts_first}
 use Rattle.place_search.proofs.overlapping.Goals as goal
 
 pub passes-requires : goal.passes-requires
-passes-requires c = search (finger_within, rules)
+passes-requires c = finger_within c.requires c.argument-finger.ensures
 
 pub past-requires : goal.past-requires
-past-requires c = search (finger_inside, rules)
+past-requires c = finger_inside c.requires c.argument-finger.ensures c.passes.ensures c.if-passes.true
 
 pub behind-requires : goal.behind-requires
-behind-requires c = search (finger_linked, rules)
+behind-requires c = finger_linked c.requires c.argument-finger.ensures c.passes.ensures c.if-passes.true c.past.ensures.1
 
 pub returns-then-passes : goal.returns-then-passes
-returns-then-passes c = search (parts_finger, rules)
+returns-then-passes c =
+    parts_finger c.argument-finger.ensures c.passes.ensures c.if-passes.true c.past.ensures.0 c.past.ensures.1 c.behind.ensures
 
 pub behind-requires-2 : goal.behind-requires-2
-behind-requires-2 c = search (listed_linked, rules)
+behind-requires-2 c = listed_linked c.requires c.child-first.ensures.0
 
 pub returns : goal.returns
-returns c = search (parts_first, rules)
+returns c = parts_first c.child-first.ensures.0 c.behind-2.ensures

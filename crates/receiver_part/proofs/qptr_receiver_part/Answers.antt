@@ -1,4 +1,4 @@
--- `qptr_receiver_part` meets its contract. The check finds this alone; written out, it also fails soon.
+-- `qptr_receiver_part` meets its contract. The check finds this alone; written out, a wrong answer fails soon.
 use Rattle.receiver_part.proofs.qptr_receiver_part.Goals as goal
 
 pub returns : goal.returns

@@ -13,4 +13,7 @@ pub loop-q-preserved : goal.loop-q-preserved
 loop-q-preserved c = let follows = c.in-Some.ensures in search (chaining_next, rules)
 
 pub returns : goal.returns
-returns c = search (chaining_done, rules)
+returns c =
+    let a = c.args in
+    let l = c.loop-q in
+    chaining_done a.s.now a.from a.to a.map l.q l.place c.le.result l.invariant c.loop-q-test.false c.le.ensures

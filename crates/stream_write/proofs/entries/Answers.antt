@@ -14,3 +14,6 @@ loop-p-preserved c = search (count_more, rules)
 
 pub returns : goal.returns
 returns c = search (count_all, rules)
+
+pub loop-p-init : goal.loop-p-init
+loop-p-init c = search rules

@@ -1,5 +1,5 @@
 -- What is below a node has fewer nodes than it: the measure is their number, and a node comes before its entries.
-use Rattle.std.proofs.Common.{◌∙◌, arith, rules}
+use Rattle.std.proofs.Common.{◌∙◌, arith}
 use Rattle.support_cache.proofs.Staying.{unchanged_both, next_stays, usage_after}
 use Rattle.qptr.proofs.Nodes.{map_command, array_command}
 use Rattle.support_cache.proofs.Linked.{nodes_stay, element_usage, element_smaller, first_linked, next_linked, chain_falls, entry_usage, entry_smaller}
@@ -42,13 +42,15 @@ forget_entries-returns t c = clearing_all c.requires.map.0 c.requires.map.1 c.lo
 
 pub forget_node-forget_entries-requires : goal.forget_node-forget_entries-requires
 forget_node-forget_entries-requires t c =
-    let w = marked_usage c.requires c.put_mark.ensures (search rules) in
-    (omega (arith, marked_nodes c.requires c.put_mark.ensures (search rules)), (w, (search (map_command, rules), search rules)))
+    let l = c.put_mark.auto.s in
+    let w = marked_usage c.requires c.put_mark.ensures l in
+    (omega (arith, marked_nodes c.requires c.put_mark.ensures l), (w, (search map_command, c.put_mark.ensures.tag)))
 
 pub forget_node-forget_element-requires : goal.forget_node-forget_element-requires
 forget_node-forget_element-requires t c =
-    let w = marked_usage c.requires c.put_mark.ensures (search rules) in
-    (omega (arith, marked_nodes c.requires c.put_mark.ensures (search rules)), (w, (search (array_command, rules), search rules)))
+    let l = c.put_mark.auto.s in
+    let w = marked_usage c.requires c.put_mark.ensures l in
+    (omega (arith, marked_nodes c.requires c.put_mark.ensures l), (w, (search array_command, c.put_mark.ensures.tag)))
 
 pub forget_element-forget_node-requires : goal.forget_element-forget_node-requires
 forget_element-forget_node-requires t c =

@@ -1,0 +1,6 @@
+-- `numbers` meets its contract. The check finds this alone; written out, a wrong answer fails soon.
+use Rattle.std.proofs.Common.{rules}
+use Rattle.exports.proofs.numbers.Goals as goal
+
+pub returns : goal.returns
+returns c = search rules
