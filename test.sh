@@ -18,10 +18,15 @@ if [ "$lines" -ge 1200 ]; then
   exit 1
 fi
 
+# As many checks at a time as there are processors, and memory for them, each with one job: two jobs in one check take a fifth more processor
+# time, and end hardly sooner.
+checks=$(awk -v most="$(nproc)" '/^MemAvailable:/ { n = int($2 / 2500000); print n < 1 ? 1 : n < most ? n : most }' /proc/meminfo)
+export RT_JOBS=${RT_JOBS:-$checks}
+
 # Every proof, every must-fail edit, every program, and the layout of every file: from nothing, or as an earlier run on this machine passed
 # the same files. A bad edit (it could not be applied or read) fails nothing there, so it is looked for here.
 said=$(mktemp)
-trap 'rm -f "$said"' EXIT
+trap 'rm -f "$said" "$said.second"' EXIT
 rt ci | tee "$said"
 verdict=$(tail -n 1 "$said")
 if grep -qE '^rt: ok.*, [1-9][0-9]* bad' "$said"; then
@@ -32,23 +37,44 @@ fi
 # Every edit was refused because a fact fails, not because the proof no longer fits the code.
 bash must-fail.sh "$said"
 
+# Most of what follows uses one core, so two of it run side by side. What the second says comes when both have ended.
+both() {
+  local first second status=0
+  "$1" &
+  first=$!
+  "$2" >"$said.second" 2>&1 &
+  second=$!
+  wait "$first" || status=$?
+  wait "$second" || status=$?
+  cat "$said.second"
+  return "$status"
+}
+
 # The library as others link it: from C and from Rust. All that follows uses the library that was proved above.
-bash staticlib.sh --proved exports
-bash staticlib.sh --proved receiver_part
-bash bindings/c/example.sh
-cargo test --quiet --manifest-path bindings/rust/Cargo.toml
+library() { bash staticlib.sh --proved exports; }
+receiver() { bash staticlib.sh --proved receiver_part; }
+linked() {
+  bash bindings/c/example.sh
+  cargo test --quiet --manifest-path bindings/rust/Cargo.toml
+}
+both library receiver
 
 # The original Rust as judge: worked rows, recorded answers, generated calls, deliberate faults; the library beside it, with how often
 # its layout test asks; the definitions themselves, computed on recorded and generated calls. Its source is not part of this repository
 # (differential/README.md). The merge gate demands it; elsewhere its absence is told, and the proofs and the recorded answers are left.
-if [ -d "${SPIRT_SRC:-../shared/docs/src}" ] || [ -n "${REQUIRE_RUST_SOURCE:-}" ]; then
-  judge=(--release --quiet --manifest-path differential/Cargo.toml --features library)
-  cargo test "${judge[@]}"
-  cargo run "${judge[@]}" -- ci
+judge=(--release --quiet --manifest-path differential/Cargo.toml --features library)
+tested() { cargo test "${judge[@]}"; }
+compared() { cargo run "${judge[@]}" -- ci; }
+computed() {
   cargo run "${judge[@]}" -- compare --sides reference,library --count 20000
   cargo run "${judge[@]}" -- questions
   JUDGE=${CARGO_TARGET_DIR:-differential/target}/release/differential bash differential/definitions.sh
+}
+if [ -d "${SPIRT_SRC:-../shared/docs/src}" ] || [ -n "${REQUIRE_RUST_SOURCE:-}" ]; then
+  both linked tested
+  both compared computed
 else
+  linked
   echo "test.sh: NOT COMPARED WITH THE RUST: its source is not there; differential/README.md says where it is looked for" >&2
 fi
 
