@@ -19,7 +19,7 @@ if [ "$lines" -ge 1200 ]; then
 fi
 
 # As many checks at a time as there are processors, and memory for them, each with one job: two jobs in one check take a fifth more processor
-# time, and end hardly sooner.
+# time, and end a sixth sooner at best (docs/DECISIONS.md).
 checks=$(awk -v most="$(nproc)" '/^MemAvailable:/ { n = int($2 / 2500000); print n < 1 ? 1 : n < most ? n : most }' /proc/meminfo)
 export RT_JOBS=${RT_JOBS:-$checks}
 
