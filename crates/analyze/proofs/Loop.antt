@@ -6,7 +6,7 @@ use Rattle.definitions.specs.Limits.{max32}
 use Rattle.definitions.specs.Usage.{Usage, nodes}
 use Rattle.definitions.specs.Table.{Setting}
 use Rattle.definitions.specs.Place.{Result, refused, place}
-use Rattle.layout.specs.declared.table.Table.{Table}
+use Rattle.layout.specs.declared.setting.Setting.{Setting as CodeSetting}
 use Rattle.layout.specs.Located.{Known}
 use Rattle.record_links.specs.Rows.{chain, nodes_at}
 use Rattle.place_states.specs.Calls.{Two, Ready, NoWrap, Linkable, Ground, Done, ground, placing, merging, Placed}
@@ -33,9 +33,9 @@ use Rattle.analyze.proofs.Waits.{outside_chain}
 use Rattle.analyze.proofs.Pairs.{pair_ground, gave, has_result}
 
 -- each state stands for whatever the first one stood for
-pub record Loop (table : Table) (s₀ : List ℕ) (rep₀ : Report) (st₀ : State) (at a : ℕ) (s : List ℕ) (rep : Report) (st : State) : Type 0 where
+pub record Loop (code : CodeSetting) (s₀ : List ℕ) (rep₀ : Report) (st₀ : State) (at a : ℕ) (s : List ℕ) (rep : Report) (st : State) : Type 0 where
   pub len : length s ≡ length s₀
-  pub next : (setting : Setting) → Known table setting → (goal : Result Usage) (g : Ground) (n : ℕ) → g.report.at ≡ at → Short at goal
+  pub next : (setting : Setting) → Known code setting → (goal : Result Usage) (g : Ground) (n : ℕ) → g.report.at ≡ at → Short at goal
       → Next setting goal g n s₀ rep₀ a st₀ → Next setting goal g n s rep a st
 
 -- what is done with a pair
@@ -47,30 +47,30 @@ unfolding resume
 resume_refused setting y o w p k = refl
 
 -- what is refused at once
-pub begun_refused : {table : Table} {sₑ s : List ℕ} {repₑ rep : Report} {a d b : ℕ} {e : SizeRefusal} → Began table sₑ a d b repₑ s rep (Err e) → Placed (placing d) table sₑ a b s (Err e) repₑ rep
+pub begun_refused : {code : CodeSetting} {sₑ s : List ℕ} {repₑ rep : Report} {a d b : ℕ} {e : SizeRefusal} → Began code sₑ a d b repₑ s rep (Err e) → Placed (placing d) code sₑ a b s (Err e) repₑ rep
 unfolding placing
 begun_refused {s} {rep} {d} {e} B = record {
   done = λ setting known t u r lo mid hi two. refused_done (place setting t d u) (ground _ r lo hi _) s e rep (B.next setting known t u r lo mid hi two);
 }
 
-module _ {table : Table} {sₑ s₀ s : List ℕ} {repₑ rep₀ rep : Report} {a d b : ℕ} {st₀ st : State} (R : Ready table sₑ a b) (near : NoWrap repₑ.at (nodes_at sₑ a + nodes_at sₑ b))
-    (B : Began table sₑ a d b repₑ s₀ rep₀ (Ok st₀)) (L : Loop table s₀ rep₀ st₀ repₑ.at a s rep st) where
+module _ {code : CodeSetting} {sₑ s₀ s : List ℕ} {repₑ rep₀ rep : Report} {a d b : ℕ} {st₀ st : State} (R : Ready code sₑ a b) (near : NoWrap repₑ.at (nodes_at sₑ a + nodes_at sₑ b))
+    (B : Began code sₑ a d b repₑ s₀ rep₀ (Ok st₀)) (L : Loop code s₀ rep₀ st₀ repₑ.at a s rep st) where
   low : repₑ.at ≤ 2 ^ 62
   low = omega arith
 
   -- of any two usages that stood there
-  stands_for : (setting : Setting) → Known table setting → (t u : Usage) (r : ℕ → ℕ) (lo mid hi : ℕ) → Two (length setting.table) sₑ a b r lo mid hi t u
+  stands_for : (setting : Setting) → Known code setting → (t u : Usage) (r : ℕ → ℕ) (lo mid hi : ℕ) → Two (length setting.table) sₑ a b r lo mid hi t u
       → Next setting (place setting t d u) (ground sₑ r lo hi repₑ) (nodes t + nodes u) s rep a st
   stands_for setting known t u r lo mid hi two = L.next setting known (place setting t d u) (ground sₑ r lo hi repₑ) (nodes t + nodes u) refl
       (place_short setting t d u repₑ.at (omega (arith, two.few)) low) (B.next setting known t u r lo mid hi two)
 
-  pub loop_last : st.todo ≡ Finished → Placed (placing d) table sₑ a b s (Ok (merged_of st)) repₑ rep
+  pub loop_last : st.todo ≡ Finished → Placed (placing d) code sₑ a b s (Ok (merged_of st)) repₑ rep
   unfolding placing
   loop_last e = record { done = λ setting known t u r lo mid hi two. next_ends (stands_for setting known t u r lo mid hi two) e }
 
   -- the pair's refusal is the goal's
-  pub loop_refused : {how : Pairing} → st.todo ≡ Pair how → {s₂ : List ℕ} {rep₂ : Report} {e : SizeRefusal} → Placed (acting how st.d) table s st.x st.m s₂ (Err e) rep rep₂
-      → Placed (placing d) table sₑ a b s₂ (Err e) repₑ rep₂
+  pub loop_refused : {how : Pairing} → st.todo ≡ Pair how → {s₂ : List ℕ} {rep₂ : Report} {e : SizeRefusal} → Placed (acting how st.d) code s st.x st.m s₂ (Err e) rep rep₂
+      → Placed (placing d) code sₑ a b s₂ (Err e) repₑ rep₂
   unfolding placing
   loop_refused {how} asks {s₂} {rep₂} {e} P = record {
     done = λ setting known t u r lo mid hi two.
@@ -128,7 +128,7 @@ module _ {table : Table} {sₑ s₀ s : List ℕ} {repₑ rep₀ rep : Report} {
         outer_some (element z n) = omega arith
         outer_some (joins z low mid high o) = omega arith
 
-    pair_ready : length s₀ ≡ length sₑ → Ready table s st.x st.m
+    pair_ready : length s₀ ≡ length sₑ → Ready code s st.x st.m
     pair_ready l = ready_two R.setting pending.two R.known (linkable l)
 
     headed : (y : Continuation) (w : List ℕ) (o : ℕ) → length ((heading y ++ w) ++ entry_head y o) ≤ length w + 6
@@ -140,24 +140,24 @@ module _ {table : Table} {sₑ s₀ s : List ℕ} {repₑ rep₀ rep : Report} {
     pair_near = let Q = pending in omega (arith, near, pair_less, Q.report.place, headed Q.y Q.w Q.o, Q.brief, Q.room)
 
     -- what the call for the pair is asked
-    pub pair_asked : length s₀ ≡ length sₑ → (nodes_at s st.x + nodes_at s st.m < nodes_at sₑ a + nodes_at sₑ b) × Ready table s st.x st.m × NoWrap rep.at (nodes_at s st.x + nodes_at s st.m)
+    pub pair_asked : length s₀ ≡ length sₑ → (nodes_at s st.x + nodes_at s st.m < nodes_at sₑ a + nodes_at sₑ b) × Ready code s st.x st.m × NoWrap rep.at (nodes_at s st.x + nodes_at s st.m)
     pair_asked l = (pair_less, pair_ready l, pair_near)
 
 -- Turns
 
-module _ {table : Table} {s₀ s : List ℕ} {rep₀ rep : Report} {st₀ st : State} {at a : ℕ} (L : Loop table s₀ rep₀ st₀ at a s rep st) where
+module _ {code : CodeSetting} {s₀ s : List ℕ} {rep₀ rep : Report} {st₀ st : State} {at a : ℕ} (L : Loop code s₀ rep₀ st₀ at a s rep st) where
   -- the call's answer is what the state asks for
   module _ {how : Pairing} (asks : st.todo ≡ Pair how) (near : at ≤ 2 ^ 62) {s₂ : List ℕ} {rep₂ rep₃ : Report} {r : Merged}
-      (P : Placed (acting how st.d) table s st.x st.m s₂ (Ok r) rep rep₂)
+      (P : Placed (acting how st.d) code s st.x st.m s₂ (Ok r) rep rep₂)
       {st' : State} (D : TakesResult st rep.at r rep₂ rep₃ st') (d-fits : st'.d ≤ max32) where
     was-fits : st.d ≤ max32
     was-fits = omega (arith, ap (λ (x : State). x.d) D.state)
 
-    done_pair : (setting : Setting) → Known table setting → {goal : Result Usage} {g : Ground} {n : ℕ} (Q : Pending how setting goal g n s rep a st)
+    done_pair : (setting : Setting) → Known code setting → {goal : Result Usage} {g : Ground} {n : ℕ} (Q : Pending how setting goal g n s rep a st)
         → Done (act setting how st.d Q.t Q.u) (pair_ground Q) s₂ (Ok r) rep₂
     done_pair setting known Q = P.done setting known Q.t Q.u Q.rank Q.c Q.m Q.e Q.two
 
-    pub loop_again : length s₂ ≡ length s → Loop table s₀ rep₀ st₀ at a s₂ rep₃ st'
+    pub loop_again : length s₂ ≡ length s → Loop code s₀ rep₀ st₀ at a s₂ rep₃ st'
     loop_again ls = record {
       len = ls ∙ L.len;
       next = λ setting known goal g n base short N.
@@ -165,7 +165,7 @@ module _ {table : Table} {s₀ s : List ℕ} {rep₀ rep : Report} {st₀ st : S
     }
 
     -- what comes after is linked as before
-    pub chain_less : (setting : Setting) → Known table setting → {goal : Result Usage} {g : Ground} {n : ℕ} → Next setting goal g n s rep a st
+    pub chain_less : (setting : Setting) → Known code setting → {goal : Result Usage} {g : Ground} {n : ℕ} → Next setting goal g n s rep a st
         → chain 65536 s₂ st'.rest * 3 + turns st'.todo < chain 65536 s st.rest * 3 + turns st.todo
     chain_less setting known {g} X =
         let Q = next_pair X asks in
@@ -176,11 +176,11 @@ module _ {table : Table} {s₀ s : List ℕ} {rep₀ rep : Report} {st₀ st : S
         rw D.state (omega (arith, before, after, ap turns asks))
 
 -- the two calls that a state asks for
-module _ {how : Pairing} {table : Table} {s s' : List ℕ} {x m : ℕ} {r : Outcome Merged SizeRefusal} {rep rep' : Report} where
-  pub placed_pair : (d : ℕ) → how ≡ Place → Placed (placing d) table s x m s' r rep rep' → Placed (acting how d) table s x m s' r rep rep'
+module _ {how : Pairing} {code : CodeSetting} {s s' : List ℕ} {x m : ℕ} {r : Outcome Merged SizeRefusal} {rep rep' : Report} where
+  pub placed_pair : (d : ℕ) → how ≡ Place → Placed (placing d) code s x m s' r rep rep' → Placed (acting how d) code s x m s' r rep rep'
   unfolding placing act
   placed_pair d e P = rw e (record { done = P.done })
 
-  pub merged_pair : (d : ℕ) → how ≡ Merge → Placed merging table s x m s' r rep rep' → Placed (acting how d) table s x m s' r rep rep'
+  pub merged_pair : (d : ℕ) → how ≡ Merge → Placed merging code s x m s' r rep rep' → Placed (acting how d) code s x m s' r rep rep'
   unfolding merging act
   merged_pair d e P = rw e (record { done = P.done })

@@ -1,14 +1,17 @@
 -- Merging is placing at 0 in the one that receives, which the two roots tell: only sizes and commands are asked for. Where the second
 -- receives, the two change their ranks and nothing else.
 -- Assumes nothing.
-use Rattle.std.proofs.Common.{◌≡◌, ℕ, ◌+◌, ◌-◌, ◌≤◌, Bool, true, false, List, refl, sym, ◌∙◌, arith}
+use Rattle.std.proofs.Common.{◌≡◌, ℕ, ◌+◌, ◌-◌, ◌≤◌, Bool, true, false, List, refl, sym, ap, ◌∙◌, arith}
 use Rattle.std.specs.Prelude.{Result as Returned, Ok, Err}
-use Rattle.layout.specs.declared.table.Table.{Table}
+use Rattle.layout.specs.Located.{Known}
+use Rattle.layout.specs.declared.setting.Setting.{Setting as CodeSetting}
 use Rattle.definitions.specs.If.{when◌then◌else◌}
 use Rattle.definitions.specs.Usage.{Usage, unused, leaf, map, array, none, size}
 use Rattle.definitions.specs.Command.{head_of, strictness}
 use Rattle.definitions.specs.Table.{Setting}
 use Rattle.definitions.specs.Place.{Result, refused, done, place, merge_mem, first_receives}
+use Rattle.definitions.specs.Requests.Choices.{Choices}
+use Rattle.qptr.specs.Choices.{choices_in}
 use Rattle.qptr.specs.Values.{OwnPart as IsNode, Receives}
 use Rattle.qptr.specs.declared.Node.{Node}
 use Rattle.record_links.specs.Standing.{Root}
@@ -42,8 +45,8 @@ bare_strictness (leaf z k t) = refl
 bare_strictness (map z es) = refl
 bare_strictness (array z n e) = refl
 
-bare_receives : (u v : Usage) → first_receives (bare u) (bare v) ≡ first_receives u v
-bare_receives u v = rw (bare_size u, bare_size v, bare_strictness u, bare_strictness v)
+bare_receives : (ch : Choices) (u v : Usage) → first_receives ch (bare u) (bare v) ≡ first_receives ch u v
+bare_receives ch u v = rw (bare_size u, bare_size v, bare_strictness u, bare_strictness v)
 
 bare_stands : (u : Usage) {s : List ℕ} {q : ℕ} {r : ℕ → ℕ} {lo hi : ℕ} {x : Node} → Root s q r lo hi (head_of u).command (size u) → RootNode s q x → IsNode x (bare u)
 bare_stands (unused z) H T = T.part ∙ rw (H.command, H.size) refl
@@ -53,10 +56,11 @@ bare_stands (map z es) H T = T.part ∙ rw (H.command, H.size) refl
 bare_stands (array z n e) H T = T.part ∙ rw (H.command, H.size) refl
 
 module _ {k : ℕ} {s : List ℕ} {a b : ℕ} {r : ℕ → ℕ} {lo mid hi : ℕ} {t u : Usage} (two : Two k s a b r lo mid hi t u) where
-  roots_receive : {x y : Node} {f : Bool} → RootNode s a x → RootNode s b y → Receives x y f → f ≡ first_receives t u
-  roots_receive X Y R =
+  roots_receive : {code : CodeSetting} {st : Setting} {x y : Node} {f : Bool} → Known code st → RootNode s a x → RootNode s b y
+      → Receives code.choices x y f → f ≡ first_receives st.choices t u
+  roots_receive {code} known X Y R =
       R.of (bare t) (bare u) (bare_stands t (stands_root t s a r lo mid two.left) X) (bare_stands u (stands_root u s b r mid hi two.right) Y)
-      ∙ bare_receives t u
+      ∙ bare_receives (choices_in code.choices) t u ∙ ap (λ ch. first_receives ch t u) known.chosen
 
   low : lo ≤ mid
   low = omega (arith, stands_le t s a r lo mid two.left)
@@ -73,15 +77,15 @@ module _ {k : ℕ} {s : List ℕ} {a b : ℕ} {r : ℕ → ℕ} {lo mid hi : ℕ
     few = omega (arith, two.few);
   }
 
-pub ready_swap : {table : Table} {s : List ℕ} {a b : ℕ} → Ready table s a b → Ready table s b a
+pub ready_swap : {code : CodeSetting} {s : List ℕ} {a b : ℕ} → Ready code s a b → Ready code s b a
 ready_swap R = ready_two R.setting (two_swap R.two) R.known R.linkable
 
 module _ (setting : Setting) (a b : Usage) where
-  merges_left : first_receives a b ≡ true → place setting a 0 b ≡ merge_mem setting a b
+  merges_left : first_receives setting.choices a b ≡ true → place setting a 0 b ≡ merge_mem setting a b
   unfolding merge_mem when◌then◌else◌
   merges_left e = rw e
 
-  merges_right : first_receives a b ≡ false → place setting b 0 a ≡ merge_mem setting a b
+  merges_right : first_receives setting.choices a b ≡ false → place setting b 0 a ≡ merge_mem setting a b
   unfolding merge_mem when◌then◌else◌
   merges_right e = rw e
 
@@ -99,17 +103,17 @@ module _ (s : List ℕ) (r : ℕ → ℕ) (lo mid hi : ℕ) (rep : Report) (s' :
     report = D.report;
   }
 
-module _ {table : Table} {s : List ℕ} {a b : ℕ} {x y : Node} {f : Bool} {s' : List ℕ} {r : Returned Merged SizeRefusal} {rep rep' : Report} where
-  pub merged_left : RootNode s a x → RootNode s b y → Receives x y f → f ≡ true → Placed (placing 0) table s a b s' r rep rep' → Placed merging table s a b s' r rep rep'
+module _ {code : CodeSetting} {s : List ℕ} {a b : ℕ} {x y : Node} {f : Bool} {s' : List ℕ} {r : Returned Merged SizeRefusal} {rep rep' : Report} where
+  pub merged_left : RootNode s a x → RootNode s b y → Receives code.choices x y f → f ≡ true → Placed (placing 0) code s a b s' r rep rep' → Placed merging code s a b s' r rep rep'
   unfolding placing merging
   merged_left X Y R e P = record {
-    done = λ setting known t u rank lo mid hi two. rw (merges_left setting t u (sym (roots_receive two X Y R) ∙ e)) at (P.done setting known t u rank lo mid hi two);
+    done = λ setting known t u rank lo mid hi two. rw (merges_left setting t u (sym (roots_receive two known X Y R) ∙ e)) at (P.done setting known t u rank lo mid hi two);
   }
 
-  pub merged_right : RootNode s a x → RootNode s b y → Receives x y f → f ≡ false → Placed (placing 0) table s b a s' r rep rep' → Placed merging table s a b s' r rep rep'
+  pub merged_right : RootNode s a x → RootNode s b y → Receives code.choices x y f → f ≡ false → Placed (placing 0) code s b a s' r rep rep' → Placed merging code s a b s' r rep rep'
   unfolding placing merging
   merged_right X Y R e P = record {
     done = λ setting known t u rank lo mid hi two.
-        rw (merges_right setting t u (sym (roots_receive two X Y R) ∙ e)) at (swapped_back s rank lo mid hi rep s' rep' (low two) (high two) (place setting u 0 t) r
+        rw (merges_right setting t u (sym (roots_receive two known X Y R) ∙ e)) at (swapped_back s rank lo mid hi rep s' rep' (low two) (high two) (place setting u 0 t) r
         (P.done setting known u t (rotated rank lo mid hi) lo (lo + (hi - mid)) hi (two_swap two)));
   }

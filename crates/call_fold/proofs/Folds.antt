@@ -28,7 +28,7 @@ use Rattle.stream_load.specs.Loading.{by_number}
 use Rattle.call_answers.specs.Writing.{Reached}
 use Rattle.call_fold.specs.Folding.{NodeReady, NodeLoaded, NextReady, of_next, NextDone, ReadOn, NextFolded, Foldable}
 use Rattle.call_fold.specs.declared.Folded.{Folded}
-use Rattle.layout.specs.declared.table.Table.{Table}
+use Rattle.layout.specs.declared.setting.Setting.{Setting as CodeSetting}
 use Rattle.stream.specs.declared.Span.{Span}
 use Rattle.place_states.specs.declared.SizeRefusal.{SizeRefusal}
 use Rattle.call_fold.proofs.Lists.{Listed, Counted, nodes_left, list_behind}
@@ -68,7 +68,7 @@ pub record Folding (st : Setting) (ns : Nodes) (list : List ℕ) (count : ℕ) (
 abbrev start : Span → Folded
 start l = record { end = l.end; free = 1 + l.nodes; result = record { node = 1; pairings = 0 } }
 
-module _ {table : Table} {list : List ℕ} {st : Setting} {ns : Nodes} (foldable : Foldable table list st ns) {w : ℕ} (width : w ≡ argument_width 0x0B) where
+module _ {code : CodeSetting} {list : List ℕ} {st : Setting} {ns : Nodes} (foldable : Foldable code list st ns) {w : ℕ} (width : w ≡ argument_width 0x0B) where
   pub count_inside : Width w × (1 + w ≤ length list)
   count_inside = rw width (argument_width_lem 0x0B, (list_behind list foldable.is).0)
 
@@ -129,7 +129,7 @@ module _ {st : Setting} {ns : Nodes} {list : List ℕ} {count : ℕ} {rep₀ : R
       let one : folding.left ≡ suc (folding.left - 1) = omega (arith, folding.to_come) in
       nodes_left (folding.left - 1) (drop f.end list) (rw one at folding.reads)
 
-  pub turn_ready : {table : Table} → Known table st → i < count → length work ≡ work_limit → NextReady table list f work rep
+  pub turn_ready : {code : CodeSetting} → Known code st → i < count → length work ≡ work_limit → NextReady code list f work rep
   turn_ready known more area =
       let node = next_node more in
       let few : nodes folding.u + nodes_of (node.first ∷ node.others) ≤ node_limit = rw node.is at folding.few in
@@ -156,7 +156,7 @@ module _ {st : Setting} {ns : Nodes} {list : List ℕ} {count : ℕ} {rep₀ : R
         near = omega (arith, folding.start, folding.report.place, folding.short, folding.turns);
       }
 
-  module _ {table : Table} (known : Known table st) (more : i < count) {work' : List ℕ} {rep' : Report} {r : Returned Folded SizeRefusal} (next : NextFolded table list i f work rep work' rep' r) where
+  module _ {code : CodeSetting} (known : Known code st) (more : i < count) {work' : List ℕ} {rep' : Report} {r : Returned Folded SizeRefusal} (next : NextFolded code list i f work rep work' rep' r) where
     node_fit : AllStorable (length st.table) ((next_node more).first ∷ (next_node more).others)
     node_fit = rw (next_node more).is at folding.others_fit
 

@@ -21,7 +21,7 @@ use Rattle.place_states.proofs.Starting.{ready_two}
 use Rattle.place_states.specs.Calls.{Two, Ready, NoWrap, Ground, ground, Answered, Done, merging, Placed}
 use Rattle.place_states.specs.declared.SizeRefusal.{SizeRefusal}
 use Rattle.place_states.specs.declared.Merged.{Merged}
-use Rattle.layout.specs.declared.table.Table.{Table}
+use Rattle.layout.specs.declared.setting.Setting.{Setting as CodeSetting}
 use Rattle.stream.specs.declared.Span.{Span}
 use Rattle.stream_load.specs.Loading.{by_number}
 use Rattle.call_fold.specs.Folding.{NodeReady, NodeLoaded, Beside, NextReady, of_next, NextDone, NextFolded}
@@ -48,7 +48,7 @@ module _ (i : ℕ) {rep rep₁ rep₂ : Report} (low : rep.at ≤ 2 ^ 61) (head 
     | no other ↦ rw (T.other other) (index_kept other w short E)
   ]
 
-module _ {table : Table} {list : List ℕ} {f : Folded} {work : List ℕ} {rep : Report} (ready : NextReady table list f work rep) where
+module _ {code : CodeSetting} {list : List ℕ} {f : Folded} {work : List ℕ} {rep : Report} (ready : NextReady code list f work rep) where
   pub next_node_ready : NodeReady list f.end work f.free
   next_node_ready =
       let B = ready.beside in
@@ -63,7 +63,7 @@ module _ {table : Table} {list : List ℕ} {f : Folded} {work : List ℕ} {rep :
       }
 
   module _ {work₁ : List ℕ} {next : Span} (same : length work₁ ≡ length work) (loaded : NodeLoaded list f.end work f.free work₁ next) where
-    next_two : (st : Setting) (a b : Usage) (rest : List ℕ) (B : Beside table list f work st a b rest) → Two (length st.table) work₁ f.result.node f.free B.rank 1 f.free (f.free + nodes b) a b
+    next_two : (st : Setting) (a b : Usage) (rest : List ℕ) (B : Beside code list f work st a b rest) → Two (length st.table) work₁ f.result.node f.free B.rank 1 f.free (f.free + nodes b) a b
     unfolding by_number
     next_two st a b rest B = record {
       left = stands_still a work work₁ f.result.node B.rank B.rank 1 f.free same (λ i low high. (loaded.kept i (below i high), refl)) B.stands;
@@ -79,7 +79,7 @@ module _ {table : Table} {list : List ℕ} {f : Folded} {work : List ℕ} {rep :
           | no le ↦ absurd (omega (arith, B.fresh i (omega arith)))
         ]
 
-    pub next_merges : Ready table work₁ f.result.node f.free
+    pub next_merges : Ready code work₁ f.result.node f.free
     next_merges = ready_two ready.setting (next_two ready.setting ready.a ready.b ready.rest ready.beside) ready.beside.known (omega (arith, ready.area))
 
     pub next_near : (at : ℕ) → at ≤ 2305843009213693955 → NoWrap at (nodes_at work₁ f.result.node + nodes_at work₁ f.free)
@@ -88,7 +88,7 @@ module _ {table : Table} {list : List ℕ} {f : Folded} {work : List ℕ} {rep :
     module _ {work₂ : List ℕ} (i : ℕ) {rep₁ rep₂ : Report} where
       -- what the definition gives is left
 
-      pub next_refused : {bs : List ℕ} → Emitted rep bs rep₁ → {e : SizeRefusal} → Placed merging table work₁ f.result.node f.free work₂ (Err e) rep₁ rep₂ → NextFolded table list i f work rep work₂ rep₂ (Err e)
+      pub next_refused : {bs : List ℕ} → Emitted rep bs rep₁ → {e : SizeRefusal} → Placed merging code work₁ f.result.node f.free work₂ (Err e) rep₁ rep₂ → NextFolded code list i f work rep work₂ rep₂ (Err e)
       unfolding merging
       next_refused head {e} placed = record {
         merged = λ st a b rest B. go _ head (merge_mem st a b) (placed.done st B.known a b B.rank 1 f.free (f.free + nodes b) (next_two st a b rest B));
@@ -99,10 +99,10 @@ module _ {table : Table} {list : List ℕ} {f : Folded} {work : List ℕ} {rep :
           go g head (refused n) D = (D.0, kept_both (kept_emitted head) D.1)
           go g head (done u w q) D = absurd D
 
-      pub next_folded : {r : Merged} → Placed merging table work₁ f.result.node f.free work₂ (Ok r) rep₁ rep₂
+      pub next_folded : {r : Merged} → Placed merging code work₁ f.result.node f.free work₂ (Ok r) rep₁ rep₂
           → {p : ℕ} {rep₃ : Report} → p ≡ (f.result.pairings + r.pairings) % 2 ^ 32
           → ((w : List ℕ) → length w < 2 ^ 61 → Emitted rep₁ w rep₂ → Emitted rep (of_node i w) rep₃)
-          → NextFolded table list i f work rep work₂ rep₃
+          → NextFolded code list i f work rep work₂ rep₃
           (Ok (record { end = next.end; free = f.free + next.nodes; result = record { node = r.node; pairings = p } }))
       unfolding merging
       next_folded {r} placed {p} {rep₃} sum report = record {
@@ -114,7 +114,7 @@ module _ {table : Table} {list : List ℕ} {f : Folded} {work : List ℕ} {rep :
         };
       }
         where
-          go : (st : Setting) (a b : Usage) (rest : List ℕ) (B : Beside table list f work st a b rest) (x : Result Usage) → merge_mem st a b ≡ x
+          go : (st : Setting) (a b : Usage) (rest : List ℕ) (B : Beside code list f work st a b rest) (x : Result Usage) → merge_mem st a b ≡ x
               → Done (merging st a b) (ground work₁ B.rank 1 (f.free + nodes b) rep₁) work₂ (Ok r) rep₂
               → NextDone (of_next i f.result.pairings x) work₂ rep rep₃ (Ok (record { end = next.end; free = f.free + next.nodes; result = record { node = r.node; pairings = p } }))
           go st a b rest B (refused n) e D = absurd (rw e at D)

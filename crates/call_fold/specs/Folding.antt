@@ -11,7 +11,7 @@ use Rattle.definitions.specs.Sound.{Storable}
 use Rattle.definitions.specs.Inner.Storable.{StorableList}
 use Rattle.record_links.specs.Standing.{Stands}
 use Rattle.layout.specs.Located.{Known}
-use Rattle.layout.specs.declared.table.Table.{Table}
+use Rattle.layout.specs.declared.setting.Setting.{Setting as CodeSetting}
 use Rattle.stream.specs.declared.Span.{Span}
 use Rattle.stream_load.specs.Loading.{KeptBelow, by_number}
 use Rattle.report.specs.Emitted.{Emitted, SameBuffer}
@@ -41,8 +41,8 @@ pub record NodeLoaded (list : List ℕ) (at : ℕ) (work : List ℕ) (q : ℕ) (
   pub kept : KeptBelow q work work'
 
 -- a, what the nodes so far have come to, has the ranks below those of the records that are free, and b is the next node
-pub record Beside (table : Table) (list : List ℕ) (f : Folded) (work : List ℕ) (st : Setting) (a b : Usage) (rest : List ℕ) : Type 0 where
-  pub known : Known table st
+pub record Beside (code : CodeSetting) (list : List ℕ) (f : Folded) (work : List ℕ) (st : Setting) (a b : Usage) (rest : List ℕ) : Type 0 where
+  pub known : Known code st
   pub rank : ℕ → ℕ
   pub stands : Stands a work f.result.node rank 1 f.free
   pub fresh : (i : ℕ) → f.free ≤ i → rank i ≡ i
@@ -52,12 +52,12 @@ pub record Beside (table : Table) (list : List ℕ) (f : Folded) (work : List �
   pub few : nodes a + nodes b ≤ node_limit
 
 -- some two, with records for b
-pub record NextReady (table : Table) (list : List ℕ) (f : Folded) (work : List ℕ) (report : Report) : Type 0 where
+pub record NextReady (code : CodeSetting) (list : List ℕ) (f : Folded) (work : List ℕ) (report : Report) : Type 0 where
   pub setting : Setting
   pub a : Usage
   pub b : Usage
   pub rest : List ℕ
-  pub beside : Beside table list f work setting a b rest
+  pub beside : Beside code list f work setting a b rest
   pub within : f.end ≤ length list
   pub room : f.free + nodes b ≤ suc node_limit
   pub area : length work ≡ work_limit
@@ -89,24 +89,24 @@ pub record ReadOn (list : List ℕ) (f r : Folded) : Type 0 where
   pub within : r.end ≤ length list
 
 -- the two are merged
-pub record NextFolded (table : Table) (list : List ℕ) (i : ℕ) (f : Folded) (work : List ℕ) (rep : Report) (work' : List ℕ) (rep' : Report) (r : Returned Folded SizeRefusal) : Type 0 where
-  pub merged : (st : Setting) (a b : Usage) (rest : List ℕ) → Beside table list f work st a b rest
+pub record NextFolded (code : CodeSetting) (list : List ℕ) (i : ℕ) (f : Folded) (work : List ℕ) (rep : Report) (work' : List ℕ) (rep' : Report) (r : Returned Folded SizeRefusal) : Type 0 where
+  pub merged : (st : Setting) (a b : Usage) (rest : List ℕ) → Beside code list f work st a b rest
       → NextDone (of_next i f.result.pairings (merge_mem st a b)) work' rep rep' r
   pub reads : IfOk r (λ next. ReadOn list f next)
 
 -- the list's nodes are ns, few enough, with types of the table
-pub record Foldable (table : Table) (list : List ℕ) (st : Setting) (ns : Nodes) : Type 0 where
-  pub known : Known table st
+pub record Foldable (code : CodeSetting) (list : List ℕ) (st : Setting) (ns : Nodes) : Type 0 where
+  pub known : Known code st
   pub is : list_of list ≡ some ns
   pub fits : StorableList (length st.table) ns
   pub few : all_nodes ns ≤ node_limit
 
-pub record FoldReady (table : Table) (list work : List ℕ) : Type 0 where
+pub record FoldReady (code : CodeSetting) (list work : List ℕ) : Type 0 where
   pub setting : Setting
   pub listed : Nodes
-  pub foldable : Foldable table list setting listed
+  pub foldable : Foldable code list setting listed
   pub area : length work ≡ work_limit
 
-pub record AllFolded (table : Table) (list work' : List ℕ) (report report' : Report) (r : Returned Merged SizeRefusal) : Type 0 where
-  pub of : (st : Setting) (ns : Nodes) → Foldable table list st ns → Reached (fold st ns) work' r report'
+pub record AllFolded (code : CodeSetting) (list work' : List ℕ) (report report' : Report) (r : Returned Merged SizeRefusal) : Type 0 where
+  pub of : (st : Setting) (ns : Nodes) → Foldable code list st ns → Reached (fold st ns) work' r report'
   pub kept : SameBuffer report report'

@@ -7,7 +7,7 @@ ghost use Rattle.report.specs.Emitted.{Emitted};
 ghost use Rattle.call_fold.specs.Folding.{NodeReady, NodeLoaded, NextReady, NextFolded, FoldReady, AllFolded};
 
 use analyze::merge_mem;
-use layout::Table;
+use layout::Setting;
 use numbers::number;
 use place_states::{Merged, SizeRefusal};
 use qptr::{Command, LIST};
@@ -47,22 +47,22 @@ fn load_node(list: &[u8], at: usize, work: &mut [u8], q: usize) -> Span
 // The next node, the one with index i, is merged into what the nodes before it have come to. A 38 with nothing behind it is taken
 // back.
 fn fold_next(
-    table: &Table<'_>,
+    setting: &Setting<'_>,
     list: &[u8],
     i: u32,
     f: Folded,
     work: &mut [u8],
     report: &mut Report<'_>,
 ) -> Result<Folded, SizeRefusal>
-    requires { NextReady table.now list.now f work.old report.old }
-    ensures { NextFolded table.now list.now i f work.old report.old work.new report.new result }
+    requires { NextReady setting.now list.now f work.old report.old }
+    ensures { NextFolded setting.now list.now i f work.old report.old work.new report.new result }
 {
     let q = f.free;
     let next = load_node(list, f.end, work, q);
     let before = report.at;
     of_node(report, i);
     let behind = report.at;
-    let r = merge_mem(table, work, f.result.node, q, report)?;
+    let r = merge_mem(setting, work, f.result.node, q, report)?;
     report.take_back(behind, before);
     Ok(Folded {
         end: next.end,
@@ -76,13 +76,13 @@ fn fold_next(
 
 // The nodes of a list that was accepted, merged one after the other. The report begins at the start of its buffer.
 pub fn fold_nodes(
-    table: &Table<'_>,
+    setting: &Setting<'_>,
     list: &[u8],
     work: &mut [u8],
     report: &mut Report<'_>,
 ) -> Result<Merged, SizeRefusal>
-    requires { FoldReady table.now list.now work.old }
-    ensures { AllFolded table.now list.now work.new report.old report.new result }
+    requires { FoldReady setting.now list.now work.old }
+    ensures { AllFolded setting.now list.now work.new report.old report.new result }
 {
     report.at = 0;
     let width = Command::of(LIST).argument;
@@ -97,7 +97,7 @@ pub fn fold_nodes(
         },
     };
     for i in 1..count {
-        f = fold_next(table, list, i, f, work, report)?;
+        f = fold_next(setting, list, i, f, work, report)?;
     }
     Ok(f.result)
 }

@@ -14,7 +14,7 @@ use Rattle.std.specs.Prelude.{Option, Some, Err}
 use Rattle.std.proofs.lemmas.Option.{same_Some}
 use Rattle.definitions.specs.If.{when◌then◌else◌}
 use Rattle.definitions.specs.Limits.{node_limit, work_limit}
-use Rattle.definitions.specs.Table.{Table, Setting, table_of}
+use Rattle.definitions.specs.Table.{Table, table_of}
 use Rattle.definitions.specs.Place.{Result, refused}
 use Rattle.definitions.specs.Calls.{with_table, given, checked}
 use Rattle.stream.specs.Found.{told}
@@ -46,23 +46,23 @@ told_some (some a) e =
     let is = same_Some _ _ e in
     (a, refl, sym (ap (λ (f : Found). f.nodes) is), sym (ap (λ (f : Found). f.types) is))
 
-module _ {A B C : Type 0} (n k : A → ℕ) (m l : B → ℕ) (next : Setting → A → B → Result C) where
-  abbrev pub body : Maybe A → Maybe B → Setting → Result C
-  body x y st =
+module _ {A B C : Type 0} (n k : A → ℕ) (m l : B → ℕ) (next : Table → A → B → Result C) where
+  abbrev pub body : Maybe A → Maybe B → Table → Result C
+  body x y t =
       given 3 x λ a.
       given 4 y λ b.
-      checked (leb (k a) (length st.table) && leb (l b) (length st.table)) (n a + m b) (next st a b)
+      checked (leb (k a) (length t) && leb (l b) (length t)) (n a + m b) (next t a b)
 
   of_streams : (t : Table) (x : Maybe A) (y : Maybe B) → (streams_refusal (length t) (told n k x) (told m l y) ≡ 0 → ⊥)
-      → body x y (record { table = t }) ≡ refused (streams_refusal (length t) (told n k x) (told m l y))
+      → body x y t ≡ refused (streams_refusal (length t) (told n k x) (told m l y))
   of_streams t nothing y not0 = refl
   of_streams t (some a) nothing not0 = refl
   of_streams t (some a) (some b) not0 =
       rw (both_within (k a) (l b) (length t))
-      (numbers (max (k a) (l b)) (length t) (n a + m b) (next (record { table = t }) a b) (ltb (length t) (max (k a) (l b))) refl (ltb node_limit (n a + m b)) refl not0)
+      (numbers (max (k a) (l b)) (length t) (n a + m b) (next t a b) (ltb (length t) (max (k a) (l b))) refl (ltb node_limit (n a + m b)) refl not0)
 
   accepted : (t : Table) {x : Maybe A} {y : Maybe B} {a : A} {b : B} → x ≡ some a → y ≡ some b → k a ≤ length t → l b ≤ length t
-      → n a + m b ≤ node_limit → body x y (record { table = t }) ≡ next (record { table = t }) a b
+      → n a + m b ≤ node_limit → body x y t ≡ next t a b
   accepted t {x} {y} {a} {b} e f a-known b-known few =
       rw (e, f, both_within (k a) (l b) (length t))
       (few_nodes _ (n a + m b) _ (le-leb (max (k a) (l b)) (length t) (omega arith)) few)
@@ -94,7 +94,7 @@ module _ {A B C : Type 0} (n k : A → ℕ) (m l : B → ℕ) (next : Setting �
       pub second_nodes : q ≡ m second
       pub first_known : k first ≤ length t
       pub second_known : l second ≤ length t
-      pub goes : with_table work table (body x y) ≡ next (record { table = t }) first second
+      pub goes : with_table work table (body x y) ≡ next t first second
 
     pub goes_on : {starts : List ℕ} {both : Nodes} (good : Good table work (told n k x) (told m l y) starts both)
         → Going good.begun.records.layouts both.first both.second
@@ -125,21 +125,21 @@ none_told = Some (record { nodes = 0; types = 0 })
 abbrev pub nothing_more : Unit {0} → ℕ
 nothing_more u = 0
 
-abbrev pub alone : {A C : Type 0} → (Setting → A → Result C) → Setting → A → Unit {0} → Result C
-alone next st a u = next st a
+abbrev pub alone : {A C : Type 0} → (Table → A → Result C) → Table → A → Unit {0} → Result C
+alone next t a u = next t a
 
-module _ {A C : Type 0} (n k : A → ℕ) (next : Setting → A → Result C) where
-  abbrev one_body : Maybe A → Setting → Result C
+module _ {A C : Type 0} (n k : A → ℕ) (next : Table → A → Result C) where
+  abbrev one_body : Maybe A → Table → Result C
   one_body x = body n k nothing_more nothing_more (alone next) x (some tt)
 
   -- the types are in the table where their bound is
   pub as_two : (known : Table → A → Bool) → ((t : Table) (a : A) → known t a ≡ leb (k a) (length t)) → (table : List ℕ) (work : ℕ) (x : Maybe A)
-      → with_table work table (λ st. given 3 x λ a. checked (known st.table a) (n a) (next st a)) ≡ with_table work table (one_body x)
+      → with_table work table (λ t. given 3 x λ a. checked (known t a) (n a) (next t a)) ≡ with_table work table (one_body x)
   as_two known bounded table work x = ap (with_table work table) (fun_ext (each x))
     where
-      each : (x : Maybe A) (st : Setting) → (given 3 x λ a. checked (known st.table a) (n a) (next st a)) ≡ one_body x st
-      each nothing st = refl
-      each (some a) st =
+      each : (x : Maybe A) (t : Table) → (given 3 x λ a. checked (known t a) (n a) (next t a)) ≡ one_body x t
+      each nothing t = refl
+      each (some a) t =
           let bound : max (k a) 0 ≡ k a = omega arith in
           let nodes : n a + 0 ≡ n a = omega arith in
-          rw (bounded st.table a, both_within (k a) 0 (length st.table), bound, nodes)
+          rw (bounded t a, both_within (k a) 0 (length t), bound, nodes)

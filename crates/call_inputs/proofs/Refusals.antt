@@ -11,7 +11,7 @@ use lib.Dec.{ltb}
 use Rattle.std.specs.Prelude.{Err}
 use Rattle.definitions.specs.If.{when◌then◌else◌}
 use Rattle.definitions.specs.Limits.{node_limit, work_limit}
-use Rattle.definitions.specs.Table.{Table, Setting, table_of}
+use Rattle.definitions.specs.Table.{Table, table_of}
 use Rattle.definitions.specs.Place.{Result, refused}
 use Rattle.definitions.specs.Calls.{given, with_table, checked}
 use Rattle.call_answers.specs.Answers.{number_of}
@@ -34,7 +34,7 @@ refused_begin : {A : Type 0} (next : Table → Result A) (k : ℕ) → 1 ≤ k �
 unfolding when◌then◌else◌
 refused_begin next = early (λ p t k. (when p then refused 1 else given 2 t next) ≡ refused k) (λ t. refl) refl
 
-module _ {A : Type 0} (next : Setting → Result A) where
+module _ {A : Type 0} (next : Table → Result A) where
   pub short_work : (work : ℕ) (table : List ℕ) → work < work_limit → with_table work table next ≡ refused 1
   unfolding when◌then◌else◌
   short_work work table h = rw (lt-ltb work work_limit h)
@@ -43,16 +43,16 @@ module _ {A : Type 0} (next : Setting → Result A) where
   unfolding when◌then◌else◌
   bad_table work table h e = rw (le-ltb work work_limit h, e)
 
-  pub table_read : (work : ℕ) (table : List ℕ) {t : Table} → work_limit ≤ work → table_of table ≡ some t → with_table work table next ≡ next (record { table = t })
+  pub table_read : (work : ℕ) (table : List ℕ) {t : Table} → work_limit ≤ work → table_of table ≡ some t → with_table work table next ≡ next t
   unfolding when◌then◌else◌
   table_read work table h e = rw (le-ltb work work_limit h, e)
 
-  pub good_table : {table starts : List ℕ} {work k : ℕ} (t : Begun table work starts k) → with_table work table next ≡ next (record { table = t.records.layouts })
+  pub good_table : {table starts : List ℕ} {work k : ℕ} (t : Begun table work starts k) → with_table work table next ≡ next t.records.layouts
   good_table {table} {work} t = table_read work table t.enough t.records.is
 
   pub table_refused : {table starts : List ℕ} {work : ℕ} {e : Refusal} → TableMet table work starts (Err e) → with_table work table next ≡ refused (number_of e)
   table_refused {table} {work} {e} met =
-      refused_begin (λ t. next (record { table = t })) (number_of e) (some_number e) (ltb work work_limit) (table_of table) met.number
+      refused_begin next (number_of e) (some_number e) (ltb work work_limit) (table_of table) met.number
 
 -- 5 and 7
 

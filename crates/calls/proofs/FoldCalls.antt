@@ -11,15 +11,18 @@ use Rattle.std.specs.Prelude.{Option, Result as Returned}
 use Rattle.definitions.specs.Limits.{work_limit}
 use Rattle.definitions.specs.Usage.{memory, Nodes as Listed, all_nodes}
 use Rattle.definitions.specs.Stream.{write_top, list_of}
-use Rattle.definitions.specs.Table.{Setting}
+use Rattle.definitions.specs.Table.{Table, Setting}
 use Rattle.definitions.specs.Place.{Result, under, fold}
 use Rattle.definitions.specs.Calls.{given, all_types_in, written, fold_call}
 use Rattle.definitions.proofs.Written.{Bytes}
 use Rattle.definitions.proofs.ReadsBack.{list_storable}
+use Rattle.qptr.specs.Choices.{choices_in}
+use Rattle.qptr.specs.declared.choices.Choices.{Choices}
 use Rattle.stream.specs.Found.{all_bound, told}
 use Rattle.stream.specs.declared.Found.{Found}
 use Rattle.layout.specs.Located.{Holds}
-use Rattle.layout.specs.declared.table.Table.{Table}
+use Rattle.layout.specs.declared.setting.Setting.{Setting as CodeSetting}
+use Rattle.layout.specs.declared.table.Table.{Table as CodeTable}
 use Rattle.layout.proofs.Uses.{known as known_table}
 use Rattle.call_inputs.specs.Inputs.{Good}
 use Rattle.call_answers.specs.Writing.{Gives}
@@ -37,24 +40,31 @@ use Rattle.calls.proofs.Calling.{Call, call_goes}
 abbrev pub told_list : List ℕ → Option Found
 told_list bs = told all_nodes all_bound (list_of bs)
 
-abbrev folded : Setting → Listed → Result (List ℕ)
-folded st ns = under (λ u. write_top (memory u)) (fold st ns)
+module _ (ch : Choices) (table : List ℕ) (work : ℕ) (list : List ℕ) where
+  -- the setting over a table
+  abbrev over : Table → Setting
+  over t = record { table = t; choices = choices_in ch }
 
-module _ (table : List ℕ) (work : ℕ) (list : List ℕ) where
+  abbrev folded : Table → Listed → Result (List ℕ)
+  folded t ns = under (λ u. write_top (memory u)) (fold (over t) ns)
+
   pub fold_is : (output : List ℕ) (n : ℕ)
-      → Call all_nodes all_bound nothing_more nothing_more (alone folded) table work (list_of list) (some tt) (written output n) (fold_call table work list output n)
+      → Call all_nodes all_bound nothing_more nothing_more (alone folded) table work (list_of list) (some tt) (written output n) (fold_call (choices_in ch) table work list output n)
   unfolding fold_call
   fold_is output n = record { is = ap (written output n) (as_two all_nodes all_bound folded (λ t ns. all_types_in t (ns.first ∷ ns.others)) (λ t ns. all_types_in_lem t (ns.first ∷ ns.others)) table work (list_of list)) }
 
   module _ {starts : List ℕ} where
-    module _ {n : Nodes} (good : Good table work (told_list list) none_told starts n) (bytes : Bytes list) {lent : Table} (holds : Holds lent table starts good.types) where
+    module _ {n : Nodes} (good : Good table work (told_list list) none_told starts n) (bytes : Bytes list) {lent : CodeTable} (holds : Holds lent table starts good.types) where
       abbrev setting : Setting
-      setting = record { table = good.begun.records.layouts }
+      setting = over good.begun.records.layouts
+
+      abbrev code : CodeSetting
+      code = record { table = lent; choices = ch }
 
       going : Going all_nodes all_bound nothing_more nothing_more (alone folded) table work (list_of list) (some tt) setting.table n.first n.second
       going = goes_on all_nodes all_bound nothing_more nothing_more (alone folded) table work (list_of list) (some tt) good
 
-      foldable : Foldable lent list setting going.first
+      foldable : Foldable code list setting going.first
       foldable =
           let ns = going.first in
           record {
@@ -66,10 +76,10 @@ module _ (table : List ℕ) (work : ℕ) (list : List ℕ) where
             few = omega (arith, going.first_nodes, good.few);
           }
 
-      pub fold_ready : {k : ℕ} → k ≡ work_limit → (area : List ℕ) → length area ≡ work → FoldReady lent list (take k area)
+      pub fold_ready : {k : ℕ} → k ≡ work_limit → (area : List ℕ) → length area ≡ work → FoldReady code list (take k area)
       fold_ready asked area same =
           record { setting = setting; listed = going.first; foldable = foldable; area = area_lent asked area same good.begun.enough }
 
-      pub fold_given : (output rep : List ℕ) {r : Returned Written Refusal} {output' rep' : List ℕ} → ListGiven lent list output rep r output' rep'
-          → Gives (fold_call table work list output (length rep)) r output' rep'
+      pub fold_given : (output rep : List ℕ) {r : Returned Written Refusal} {output' rep' : List ℕ} → ListGiven code list output rep r output' rep'
+          → Gives (fold_call (choices_in ch) table work list output (length rep)) r output' rep'
       fold_given output rep given = rw (call_goes (fold_is output (length rep)) going) (given.of setting going.first foldable)

@@ -16,11 +16,13 @@ use Rattle.definitions.specs.Calls.{written, merge_call}
 use Rattle.definitions.proofs.Written.{Bytes}
 use Rattle.definitions.proofs.Rounds.{top_written}
 use Rattle.place_states.specs.Calls.{merging}
+use Rattle.qptr.specs.Choices.{choices_in}
+use Rattle.qptr.specs.declared.choices.Choices.{Choices}
 use Rattle.stream.specs.Found.{top_bound, told}
 use Rattle.stream.specs.declared.Found.{Found}
 use Rattle.std.specs.Prelude.{Option, Result as Returned}
 use Rattle.layout.specs.Located.{Holds}
-use Rattle.layout.specs.declared.table.Table.{Table}
+use Rattle.layout.specs.declared.table.Table.{Table as CodeTable}
 use Rattle.layout.proofs.Uses.{known as known_table}
 use Rattle.call_inputs.specs.Inputs.{Good}
 use Rattle.call_inputs.specs.Tops.{OpaqueFirst, Conflicts}
@@ -69,12 +71,16 @@ under_both : {A B C : Type 0} (f : A → B) (g : B → C) (x : Result A) → und
 under_both f g (refused k) = refl
 under_both f g (done a w p) = refl
 
-module _ (table : List ℕ) (work : ℕ) (first second : List ℕ) where
-  abbrev next : Setting → Top → Top → Result (List ℕ)
-  next st a b = under write_top (merge st a b)
+module _ (ch : Choices) (table : List ℕ) (work : ℕ) (first second : List ℕ) where
+  -- the setting over a table
+  abbrev over : Layouts → Setting
+  over t = record { table = t; choices = choices_in ch }
+
+  abbrev next : Layouts → Top → Top → Result (List ℕ)
+  next t a b = under write_top (merge (over t) a b)
 
   pub merge_is : (output : List ℕ) (n : ℕ)
-      → Call top_nodes top_bound top_nodes top_bound next table work (top_of first) (top_of second) (written output n) (merge_call table work first second output n)
+      → Call top_nodes top_bound top_nodes top_bound next table work (top_of first) (top_of second) (written output n) (merge_call (choices_in ch) table work first second output n)
   unfolding merge_call
   merge_is output n = record { is = simp top_types_in_lem }
 
@@ -83,7 +89,7 @@ module _ (table : List ℕ) (work : ℕ) (first second : List ℕ) where
     layouts = good.begun.records.layouts
 
     abbrev setting : Setting
-    setting = record { table = layouts }
+    setting = over layouts
 
     pub goes : Going top_nodes top_bound top_nodes top_bound next table work (top_of first) (top_of second) layouts n.first n.second
     goes = goes_on top_nodes top_bound top_nodes top_bound next table work (top_of first) (top_of second) good
@@ -98,9 +104,9 @@ module _ (table : List ℕ) (work : ℕ) (first second : List ℕ) where
 
     keeps : (w : List ℕ) → merge setting goes.first goes.second ≡ done goes.first w 0 → (output : List ℕ) (n : ℕ)
         → {r : Returned Written Refusal} {output' rep : List ℕ} → Gives (written output n (done first w 0)) r output' rep
-        → Gives (merge_call table work first second output n) r output' rep
+        → Gives (merge_call (choices_in ch) table work first second output n) r output' rep
     keeps w e output n gives =
-        let all : next setting goes.first goes.second ≡ done first w 0 = ap (under write_top) e ∙ ap (λ (bs : List ℕ). done bs w 0) (sym (top_written first goes.first bytes goes.first_is).0) in
+        let all : next layouts goes.first goes.second ≡ done first w 0 = ap (under write_top) e ∙ ap (λ (bs : List ℕ). done bs w 0) (sym (top_written first goes.first bytes goes.first_is).0) in
         rw (call_goes (merge_is output n) goes, all) gives
 
     module _ (is : get_or first 0 0 ≡ 0x08) where
@@ -110,14 +116,14 @@ module _ (table : List ℕ) (work : ℕ) (first second : List ℕ) where
           record { type = o.0; other = goes.second; first_is = o.1; second_is = goes.second_is }
 
       pub merge_opaque : {unlike : Bool} → Conflicts first second unlike → (output : List ℕ) (n : ℕ) {r : Returned Written Refusal} {output' rep : List ℕ}
-          → Gives (written output n (done first (unlike_report unlike) 0)) r output' rep → Gives (merge_call table work first second output n) r output' rep
+          → Gives (written output n (done first (unlike_report unlike) 0)) r output' rep → Gives (merge_call (choices_in ch) table work first second output n) r output' rep
       merge_opaque {unlike} conflicts output n gives =
           let o = opaque_first in
           let same : goes.first ≡ opaque o.type = cc (goes.first_is, o.first_is) in
           keeps (unlike_report unlike) (rw same (conflicts.of setting o.type goes.second o.first_is goes.second_is)) output n gives
 
     pub merge_unlike : (get_or first 0 0 ≡ get_or second 0 0 → ⊥) → (output : List ℕ) (n : ℕ) {r : Returned Written Refusal} {output' rep : List ℕ}
-        → Gives (written output n (done first (unlike_report true) 0)) r output' rep → Gives (merge_call table work first second output n) r output' rep
+        → Gives (written output n (done first (unlike_report true) 0)) r output' rep → Gives (merge_call (choices_in ch) table work first second output n) r output' rep
     merge_unlike differ output n gives =
         keeps (unlike_report true)
         (of_unlike setting goes.first goes.second (λ same. differ (first_byte first bytes goes.first_is ∙ same ∙ sym (first_byte second bytes' goes.second_is))))
@@ -126,7 +132,7 @@ module _ (table : List ℕ) (work : ℕ) (first second : List ℕ) where
     -- two tops merge as the usages of the two streams do, behind this first byte
     pub record Merged (x y : Top) (top : ℕ) : Type 0 where
       pub pair : Pair layouts first second n
-      pub is : next setting x y ≡ under (λ u. top ∷ write_node u) (merge_mem setting pair.a pair.b)
+      pub is : next layouts x y ≡ under (λ u. top ∷ write_node u) (merge_mem setting pair.a pair.b)
 
     -- so do those that were read
     abbrev pub ReadMerged : ℕ → Type 0
@@ -151,9 +157,9 @@ module _ (table : List ℕ) (work : ℕ) (first second : List ℕ) where
           is = rw (first_byte first bytes e) (under_both memory write_top (merge_mem setting a b));
         }
 
-    pub merge_gives : {top : ℕ} (k : ReadMerged top) {lent : Table} → Holds lent table starts good.types → (output rep : List ℕ)
-        → {r : Returned Written Refusal} {output' rep' : List ℕ} → PairGiven top merging lent first second n output rep r output' rep'
-        → Gives (merge_call table work first second output (length rep)) r output' rep'
+    pub merge_gives : {top : ℕ} (k : ReadMerged top) {lent : CodeTable} → Holds lent table starts good.types → (output rep : List ℕ)
+        → {r : Returned Written Refusal} {output' rep' : List ℕ} → PairGiven top merging (record { table = lent; choices = ch }) first second n output rep r output' rep'
+        → Gives (merge_call (choices_in ch) table work first second output (length rep)) r output' rep'
     unfolding merging
     merge_gives k holds output rep given =
         rw (call_goes (merge_is output (length rep)) goes, k.is) (given.of setting (known_table good.begun.records holds) k.pair good.few)

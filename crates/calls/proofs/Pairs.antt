@@ -16,13 +16,14 @@ use Rattle.definitions.proofs.FewPairings.{place_few, merge_mem_few}
 use Rattle.definitions.proofs.Writable.{Writable}
 use Rattle.definitions.proofs.Storable.{known_storable}
 use Rattle.definitions.proofs.Rounds.{write_read}
+use Rattle.qptr.specs.Choices.{choices_in}
 use Rattle.record_links.specs.Rows.{nodes_at}
 use Rattle.layout.specs.Located.{Known}
 use Rattle.stream.specs.Found.{type_bound}
 use Rattle.stream.specs.declared.Found.{Found}
 use Rattle.std.specs.Prelude.{Option, Result as Returned}
 use Rattle.layout.specs.Located.{Holds}
-use Rattle.layout.specs.declared.table.Table.{Table}
+use Rattle.layout.specs.declared.setting.Setting.{Setting as CodeSetting}
 use Rattle.layout.proofs.Uses.{known as known_table}
 use Rattle.report.specs.Emitted.{SameBuffer}
 use Rattle.report.specs.declared.Report.{Report}
@@ -60,11 +61,11 @@ pair_of t c a b w v known known' counted counted' = record {
   right_nodes = counted';
 }
 
-pub pair_ready : {table starts : List ℕ} {size : ℕ} {x y : Option Found} {n : Nodes} (good : Good table size x y starts n) {lent : Table} → Holds lent table starts good.types
+pub pair_ready : {table starts : List ℕ} {size : ℕ} {x y : Option Found} {n : Nodes} (good : Good table size x y starts n) {lent : CodeSetting} → Holds lent.table table starts good.types
     → {first second : List ℕ} → Pair good.begun.records.layouts first second n
     → {k : ℕ} → k ≡ work_limit → (work : List ℕ) → length work ≡ size → PairReady lent first second n (take k work)
-pair_ready good holds pair asked work same = record {
-  setting = record { table = good.begun.records.layouts };
+pair_ready good {lent} holds pair asked work same = record {
+  setting = record { table = good.begun.records.layouts; choices = choices_in lent.choices };
   known = known_table good.begun.records holds;
   pair = pair;
   few = good.few;
@@ -81,7 +82,7 @@ pub merging_few : (st : Setting) (a b : Usage) (n : ℕ) → nodes a + nodes b �
 unfolding merging
 merging_few st a b n few u w p e = merge_mem_few st a b e few
 
-module _ {table : Table} {first second : List ℕ} {n : Nodes} {work : List ℕ} (ready : PairReady table first second n work) where
+module _ {code : CodeSetting} {first second : List ℕ} {n : Nodes} {work : List ℕ} (ready : PairReady code first second n work) where
   module _ {work₁ : List ℕ} (same : length work₁ ≡ length work) (loaded : BothLoaded first second n work work₁) where
     two : (st : Setting) (pair : Pair st.table first second n)
         → Two (length st.table) work₁ 1 (1 + n.first) by_number 1 (1 + n.first) (1 + n.first + n.second) pair.a pair.b
@@ -98,24 +99,24 @@ module _ {table : Table} {first second : List ℕ} {n : Nodes} {work : List ℕ}
 
     module _ (z : Setting → Usage → Usage → Result Usage) (small : (st : Setting) (a b : Usage) (m : ℕ) → nodes a + nodes b ≤ m → FewIn m (z st a b)) {work₂ : List ℕ} {rep rep₂ : Report}
         (start : rep.at ≡ 0) where
-      reaches : {r : Returned Merged SizeRefusal} → Placed z table work₁ 1 (1 + n.first) work₂ r rep rep₂
-          → (st : Setting) → Known table st → (pair : Pair st.table first second n) → Reached (z st pair.a pair.b) work₂ r rep₂
+      reaches : {r : Returned Merged SizeRefusal} → Placed z code work₁ 1 (1 + n.first) work₂ r rep rep₂
+          → (st : Setting) → Known code st → (pair : Pair st.table first second n) → Reached (z st pair.a pair.b) work₂ r rep₂
       reaches {r} placed st known pair =
           reached node_limit (omega arith) (ground work₁ by_number 1 (1 + n.first + n.second) rep) start work₂ rep₂ r (z st pair.a pair.b)
           (small st pair.a pair.b node_limit (omega (arith, ready.few, pair.left_nodes, pair.right_nodes)))
           (placed.done st known pair.a pair.b by_number 1 (1 + n.first) (1 + n.first + n.second) (two st pair))
 
       -- what was reported is in the buffer that was lent
-      pub same_buffer : {r : Returned Merged SizeRefusal} → Placed z table work₁ 1 (1 + n.first) work₂ r rep rep₂ → SameBuffer rep rep₂
+      pub same_buffer : {r : Returned Merged SizeRefusal} → Placed z code work₁ 1 (1 + n.first) work₂ r rep rep₂ → SameBuffer rep rep₂
       same_buffer {r} placed =
           done_kept (z ready.setting ready.pair.a ready.pair.b) (ground work₁ by_number 1 (1 + n.first + n.second) rep) work₂ r rep₂
           (placed.done ready.setting ready.known ready.pair.a ready.pair.b by_number 1 (1 + n.first) (1 + n.first + n.second) (two ready.setting ready.pair))
 
-      pub reachable : {r : Returned Merged SizeRefusal} → Placed z table work₁ 1 (1 + n.first) work₂ r rep rep₂ → Reachable work₂ r rep₂
+      pub reachable : {r : Returned Merged SizeRefusal} → Placed z code work₁ 1 (1 + n.first) work₂ r rep rep₂ → Reachable work₂ r rep₂
       reachable placed = record { result = z ready.setting ready.pair.a ready.pair.b; reached = reaches placed ready.setting ready.known ready.pair }
 
-      pub given : {m : Returned Merged SizeRefusal} → Placed z table work₁ 1 (1 + n.first) work₂ m rep rep₂
+      pub given : {m : Returned Merged SizeRefusal} → Placed z code work₁ 1 (1 + n.first) work₂ m rep rep₂
           → {top : ℕ} {output report : List ℕ} {r : Returned Written Refusal} {output' : List ℕ} {rep₃ : Report} {report' : List ℕ}
           → length rep₂.buffer.now ≡ length report → report' ≡ rep₃.buffer.now → Finished Gives top m work₂ output rep₂ r output' rep₃
-          → PairGiven top z table first second n output report r output' report'
+          → PairGiven top z code first second n output report r output' report'
       given placed long same finished = record { of = λ st known pair few. rw (← long, same) (finished.of (z st pair.a pair.b) (reaches placed st known pair)) }

@@ -17,6 +17,7 @@ use Rattle.definitions.specs.Table.{Table, Setting, table_of}
 use Rattle.definitions.specs.Place.{Result, refused, done, under, fold}
 use Rattle.definitions.specs.Sound.{Sound, Storable, Each, Fulfils, Promise}
 use Rattle.definitions.specs.Calls.{Written, all_types_in, written, fold_call}
+use Rattle.definitions.specs.Requests.Choices.{Choices}
 use Rattle.definitions.proofs.Choice.{either}
 use Rattle.definitions.proofs.Written.{Bytes}
 use Rattle.definitions.proofs.ReadsBack.{list_storable}
@@ -57,12 +58,12 @@ module _ (t : Table) (ns : Nodes) (output : List ℕ) (n : ℕ) where
   folded (refused k) fit promise = absurd promise
   folded (done u w p) fit promise = answer u w p promise (promise.storable_usage (length t) fit)
 
-module _ (table : List ℕ) (work : ℕ) (list : List ℕ) (bytes : Bytes list) (output : List ℕ) (n : ℕ) where
+module _ (ch : Choices) (table : List ℕ) (work : ℕ) (list : List ℕ) (bytes : Bytes list) (output : List ℕ) (n : ℕ) where
   call_promised : (t : Table) (ns : Nodes) → table_of table ≡ some t → list_of list ≡ some ns → all_types_in t (ns.first ∷ ns.others) ≡ true → Each Sound ns
-      → Kept t ns output n (fold_call table work list output n)
+      → Kept t ns output n (fold_call ch table work list output n)
   unfolding fold_call
   call_promised t ns is-table is-list known sound =
-      let st : Setting = record { table = t } in
+      let st : Setting = record { table = t; choices = ch } in
       let other : (k : ℕ) → (k ≡ 8 → ⊥) → (k ≡ 9 → ⊥) → (k ≡ 0 → ⊥) → KeptBy t ns output n (refused k) = other_refusal t ns output n in
       rw (is-table, is-list, known)
       (either (KeptBy t ns output n) (ltb work work_limit) (other 1 (omega arith) (omega arith) (omega arith))
@@ -70,6 +71,6 @@ module _ (table : List ℕ) (work : ℕ) (list : List ℕ) (bytes : Bytes list) 
       (either (KeptBy t ns output n) (ltb node_limit (all_nodes ns)) (other 7 (omega arith) (omega arith) (omega arith))
       (folded t ns output n (fold st ns) (list_storable t list bytes ns is-list known) (demand st ns sound)))))
 
-  pub with_promise : {r : Returned Counted Refusal} {output' report' : List ℕ} → Gives (fold_call table work list output n) r output' report'
-      → Gives (fold_call table work list output n) r output' report' × Promised table list (told_of r) output'
+  pub with_promise : {r : Returned Counted Refusal} {output' report' : List ℕ} → Gives (fold_call ch table work list output n) r output' report'
+      → Gives (fold_call ch table work list output n) r output' report' × Promised table list (told_of r) output'
   with_promise gives = (gives, rw (gives.numbers, gives.usage) (record { of = call_promised }))

@@ -16,8 +16,11 @@ use Rattle.definitions.specs.Table.{Setting, concrete, scalar, table_of}
 use Rattle.definitions.specs.Support.{supports, supports_in}
 use Rattle.definitions.specs.Place.{done, place, place_in, merge_mem, fold}
 use Rattle.definitions.specs.Calls.{fold_call}
+use Rattle.definitions.specs.Requests.Choices.{rust}
 use Rattle.layout.specs.Located.{Located}
-use Rattle.layout.specs.declared.table.Table.{Table as Lent}
+use Rattle.layout.specs.declared.setting.Setting.{Setting as CodeSetting}
+use Rattle.qptr.specs.Choices.{choices_in}
+use Rattle.qptr.specs.declared.choices.TheConstants.Choices.{RUST}
 use Rattle.call_fold.specs.Folding.{FoldReady}
 
 -- types 0 and 1 are scalars of 4 bytes
@@ -25,7 +28,7 @@ table : List ℕ
 table = bytes 2 2 ++ 0x20 ∷ bytes 4 4 ++ bytes 4 0 ++ 0x20 ∷ bytes 4 4 ++ bytes 4 0
 
 setting : Setting
-setting = record { table = concrete 4 0 scalar ∷ concrete 4 0 scalar ∷ [] }
+setting = record { table = concrete 4 0 scalar ∷ concrete 4 0 scalar ∷ []; choices = rust }
 
 -- two leaves of different types, and a strict one
 three : Nodes
@@ -53,7 +56,7 @@ not_two_of_three w p e = let z : ◌≡◌ {A = ℕ} 0 1 = cc all_three in omega
 list : List ℕ
 list = write_list three
 
-answer : fold_call table work_limit list (replicate 12 7) 5 ≡ record {
+answer : fold_call rust table work_limit list (replicate 12 7) 5 ≡ record {
   answer = record { number = 0; yes = false; usage = 11; report = 4; pairings = 2 };
   output = write_top (memory (leaf (fixed 4) true 1)) ++ 7 ∷ [];
   report = 0x38 ∷ 1 ∷ 0 ∷ 0x32 ∷ 0 ∷ [];
@@ -61,23 +64,26 @@ answer : fold_call table work_limit list (replicate 12 7) 5 ≡ record {
 unfolding table three list fold_call table_of list_of read_node read_node_in fold merge_mem place place_in supports supports_in when◌then◌else◌ command_at
 answer = refl
 
--- the table, with the starts of its records
-lent : Lent
-lent = record { bytes = record { ref_ptr = (0, 0); now = table }; starts = record { ref_ptr = (0, 0); now = 2 ∷ 11 ∷ [] } }
+-- the table, with the starts of its records, and the choices of the source
+lent : CodeSetting
+lent = record {
+  table = record { bytes = record { ref_ptr = (0, 0); now = table }; starts = record { ref_ptr = (0, 0); now = 2 ∷ 11 ∷ [] } };
+  choices = RUST;
+}
 
-placed : (ty : ℕ) → ty < 2 → Located lent setting.table ty
+placed : (ty : ℕ) → ty < 2 → Located lent.table setting.table ty
 unfolding lent table setting when◌then◌else◌
 placed zero l = record { kept = omega arith; rest = bytes 1 0x20 ++ bytes 4 4 ++ bytes 4 0; stands = refl; admits = refl }
 placed (suc zero) l = record { kept = omega arith; rest = []; stands = refl; admits = refl }
 placed (suc (suc ty)) l = absurd (omega arith)
 
 ready : (work : List ℕ) → length work ≡ work_limit → FoldReady lent list work
-unfolding lent table setting three list table_of list_of read_node read_node_in when◌then◌else◌ command_at
+unfolding choices_in lent table setting three list table_of list_of read_node read_node_in when◌then◌else◌ command_at
 ready work area = record {
   setting = setting;
   listed = three;
   foldable = record {
-    known = record { read = refl; placed = placed };
+    known = record { read = refl; placed = placed; chosen = refl };
     is = refl;
     fits = ((omega arith, omega arith), ((omega arith, omega arith), ((omega arith, omega arith), tt)));
     few = omega arith;

@@ -10,7 +10,7 @@ use lib.ListN.{length}
 use Rattle.std.specs.Prelude.{Ok, Err}
 use Rattle.definitions.specs.Usage.{Usage, nodes}
 use Rattle.definitions.specs.Stream.{memory_of}
-use Rattle.definitions.specs.Table.{Setting}
+use Rattle.definitions.specs.Table.{Table}
 use Rattle.definitions.specs.Place.{Result, done}
 use Rattle.definitions.specs.Sound.{sound}
 use Rattle.definitions.specs.Calls.{types_in, said, sound_call}
@@ -27,8 +27,8 @@ use Rattle.calls.proofs.Calling.{Call, call_refused, call_goes}
 use Rattle.calls.proofs.Memories.{Memory, told_memory, read_as}
 use Rattle.calls.proofs.Loads.{loadable, usage_at}
 
-abbrev tested_as : Setting → Usage → Result Bool
-tested_as st u = done (sound u) [] 0
+abbrev tested_as : Table → Usage → Result Bool
+tested_as t u = done (sound u) [] 0
 
 module _ (table : List ℕ) (work : ℕ) (s : List ℕ) where
   pub sound_is : Call nodes type_bound nothing_more nothing_more (alone tested_as) table work (memory_of s) (some tt) said (sound_call table work s)

@@ -19,8 +19,11 @@ use Rattle.definitions.specs.Table.{Setting, layout_of, is_concrete}
 use Rattle.definitions.specs.Place.{done}
 use Rattle.definitions.specs.Support.{supports}
 use Rattle.definitions.specs.Calls.{refuse_if, refusal, said, supports_call}
+use Rattle.qptr.specs.Choices.{choices_in}
+use Rattle.qptr.specs.declared.choices.Choices.{Choices}
 use Rattle.layout.specs.Located.{Holds, Says}
-use Rattle.layout.specs.declared.table.Table.{Table}
+use Rattle.layout.specs.declared.setting.Setting.{Setting as CodeSetting}
+use Rattle.layout.specs.declared.table.Table.{Table as CodeTable}
 use Rattle.layout.proofs.Uses.{known}
 use Rattle.stream_load.specs.Loading.{Loaded, by_number}
 use Rattle.support.specs.Askable.{Askable}
@@ -34,21 +37,21 @@ use Rattle.calls.proofs.Memories.{Memory}
 
 -- The refusals
 
-pub supports_tableless : {table starts : List ℕ} {work : ℕ} {e : Refusal} → TableMet table work starts (Err e) → (ty offset : ℕ) (s : List ℕ)
-    → said_of (Err e) ≡ supports_call table work ty offset s
+pub supports_tableless : {table starts : List ℕ} {work : ℕ} {e : Refusal} → TableMet table work starts (Err e) → (ch : Choices) (ty offset : ℕ) (s : List ℕ)
+    → said_of (Err e) ≡ supports_call (choices_in ch) table work ty offset s
 unfolding supports_call
-supports_tableless met ty offset s = rw (table_refused _ met)
+supports_tableless met ch ty offset s = rw (table_refused _ met)
 
-module _ {table starts : List ℕ} {work k : ℕ} (t : Begun table work starts k) (ty : ℕ) where
+module _ {table starts : List ℕ} {work k : ℕ} (t : Begun table work starts k) (ch : Choices) (ty : ℕ) where
   abbrev setting : Setting
-  setting = record { table = t.records.layouts }
+  setting = record { table = t.records.layouts; choices = choices_in ch }
 
-  pub supports_broken : (offset : ℕ) (s : List ℕ) → memory_of s ≡ nothing → supports_call table work ty offset s ≡ refusal 3
+  pub supports_broken : (offset : ℕ) (s : List ℕ) → memory_of s ≡ nothing → supports_call (choices_in ch) table work ty offset s ≡ refusal 3
   unfolding supports_call
   supports_broken offset s e = rw (good_table _ t, e)
 
   module _ (offset : ℕ) {s : List ℕ} {n b : ℕ} (m : Memory s n b) where
-    asked : supports_call table work ty offset s
+    asked : supports_call (choices_in ch) table work ty offset s
         ≡ said
         (refuse_if (not (leb (max (suc ty) b) k)) 5
         (refuse_if (not (is_concrete (layout_of t.records.layouts ty))) 6
@@ -56,11 +59,14 @@ module _ {table starts : List ℕ} {work k : ℕ} (t : Begun table work starts k
     unfolding supports_call
     asked = rw (good_table _ t, m.is, types_in_lem t.records.layouts m.usage, t.records.count, ← m.bounded, ← m.counted, one_within ty k, both_within (suc ty) b k)
 
-    pub supports_unknown : {needed wide : ℕ} → needed ≡ max b (wide + 1) → wide ≡ ty → k < needed → supports_call table work ty offset s ≡ refusal 5
+    pub supports_unknown : {needed wide : ℕ} → needed ≡ max b (wide + 1) → wide ≡ ty → k < needed → supports_call (choices_in ch) table work ty offset s ≡ refusal 5
     unfolding when◌then◌else◌
     supports_unknown is same h = rw (asked, lt-leb (max (suc ty) b) k (omega arith))
 
-    module _ {needed wide : ℕ} (is : needed ≡ max b (wide + 1)) (same : wide ≡ ty) (within : needed ≤ k) {lent : Table} (holds : Holds lent table starts k) where
+    module _ {needed wide : ℕ} (is : needed ≡ max b (wide + 1)) (same : wide ≡ ty) (within : needed ≤ k) {lent : CodeTable} (holds : Holds lent table starts k) where
+      abbrev code : CodeSetting
+      code = record { table = lent; choices = ch }
+
       below : ty < k
       below = omega arith
 
@@ -71,22 +77,22 @@ module _ {table starts : List ℕ} {work k : ℕ} (t : Begun table work starts k
         concrete_is : is_concrete (layout_of t.records.layouts ty) ≡ r
         concrete_is = sym (says.is t.records.layouts (t.records.placed lent holds ty (omega (arith, t.records.count))))
 
-        pub supports_abstract : r ≡ false → supports_call table work ty offset s ≡ refusal 6
+        pub supports_abstract : r ≡ false → supports_call (choices_in ch) table work ty offset s ≡ refusal 6
         unfolding when◌then◌else◌
         supports_abstract e = rw (asked, known_is, concrete_is, e)
 
-        pub supports_many : r ≡ true → node_limit < n → supports_call table work ty offset s ≡ refusal 7
+        pub supports_many : r ≡ true → node_limit < n → supports_call (choices_in ch) table work ty offset s ≡ refusal 7
         unfolding when◌then◌else◌
         supports_many e more = rw (asked, known_is, concrete_is, e, lt-ltb node_limit n more)
 
-        pub supports_said : r ≡ true → n ≤ node_limit → supports_call table work ty offset s ≡ said (done (supports setting ty offset m.usage) [] 0)
+        pub supports_said : r ≡ true → n ≤ node_limit → supports_call (choices_in ch) table work ty offset s ≡ said (done (supports setting ty offset m.usage) [] 0)
         unfolding when◌then◌else◌
         supports_said e few = rw (asked, known_is, concrete_is, e, le-ltb node_limit n few)
 
       -- the usage that is loaded stands in the work area, and is asked about there
 
       module _ {area area' : List ℕ} {end : ℕ} (loaded : Loaded s 1 area 1 area' end) where
-        pub memory_askable : n ≤ node_limit → work_limit ≤ length area' → Askable lent ty area' 1
+        pub memory_askable : n ≤ node_limit → work_limit ≤ length area' → Askable code ty area' 1
         memory_askable few enough = record {
           type = record { setting = setting; known = known t.records holds; below = omega (arith, t.records.count, below) };
           usage = record {
@@ -101,6 +107,6 @@ module _ {table starts : List ℕ} {work k : ℕ} (t : Begun table work starts k
           };
         }
 
-        pub memory_supported : {r : Bool} → Supports lent ty offset area' 1 r → r ≡ supports setting ty offset m.usage
+        pub memory_supported : {r : Bool} → Supports code ty offset area' 1 r → r ≡ supports setting ty offset m.usage
         memory_supported says =
             says.is setting (known t.records holds) (omega (arith, t.records.count, below)) m.usage by_number 1 (1 + nodes m.usage) (loaded.stands m.usage [] m.reads)

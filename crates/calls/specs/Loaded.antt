@@ -9,7 +9,7 @@ use Rattle.definitions.specs.Place.{Result, under, fold}
 use Rattle.definitions.specs.Sound.{Storable}
 use Rattle.definitions.specs.Calls.{written}
 use Rattle.layout.specs.Located.{Known}
-use Rattle.layout.specs.declared.table.Table.{Table}
+use Rattle.layout.specs.declared.setting.Setting.{Setting as CodeSetting}
 use Rattle.call_answers.specs.Writing.{Gives}
 use Rattle.call_answers.specs.declared.Refusal.{Refusal}
 use Rattle.call_answers.specs.declared.Written.{Written}
@@ -30,19 +30,19 @@ pub record Pair (ls : Layouts) (first second : List ℕ) (n : Nodes) : Type 0 wh
   pub left_nodes : n.first ≡ nodes a
   pub right_nodes : n.second ≡ nodes b
 
-pub record PairReady (table : Table) (first second : List ℕ) (n : Nodes) (work : List ℕ) : Type 0 where
+pub record PairReady (code : CodeSetting) (first second : List ℕ) (n : Nodes) (work : List ℕ) : Type 0 where
   pub setting : Setting
-  pub known : Known table setting
+  pub known : Known code setting
   pub pair : Pair setting.table first second n
   pub few : n.first + n.second ≤ node_limit
   pub area : length work ≡ work_limit
 
 -- what z makes of the two is given back, behind the byte `top`
-pub record PairGiven (top : ℕ) (z : Setting → Usage → Usage → Result Usage) (table : Table) (first second : List ℕ) (n : Nodes) (output report : List ℕ) (r : Returned Written Refusal) (output' report' : List ℕ) : Type 0 where
-  pub of : (st : Setting) → Known table st → (p : Pair st.table first second n) → n.first + n.second ≤ node_limit
+pub record PairGiven (top : ℕ) (z : Setting → Usage → Usage → Result Usage) (code : CodeSetting) (first second : List ℕ) (n : Nodes) (output report : List ℕ) (r : Returned Written Refusal) (output' report' : List ℕ) : Type 0 where
+  pub of : (st : Setting) → Known code st → (p : Pair st.table first second n) → n.first + n.second ≤ node_limit
       → Gives (written output (length report) (under (λ u. top ∷ write_node u) (z st p.a p.b))) r output' report'
 
 -- the same of folding the nodes of a list
-pub record ListGiven (table : Table) (list output report : List ℕ) (r : Returned Written Refusal) (output' report' : List ℕ) : Type 0 where
-  pub of : (st : Setting) (ns : Listed) → Foldable table list st ns
+pub record ListGiven (code : CodeSetting) (list output report : List ℕ) (r : Returned Written Refusal) (output' report' : List ℕ) : Type 0 where
+  pub of : (st : Setting) (ns : Listed) → Foldable code list st ns
       → Gives (written output (length report) (under (λ u. 0x0A ∷ write_node u) (fold st ns))) r output' report'

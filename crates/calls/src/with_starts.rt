@@ -5,6 +5,7 @@
 ghost use Rattle.std.specs.Prelude.{◌≡◌, length};
 ghost use Rattle.definitions.specs.Limits.{work_limit};
 ghost use Rattle.definitions.specs.Calls.{sound_call, supports_call, place_call, merge_call, fold_call};
+ghost use Rattle.qptr.specs.Choices.{choices_in};
 ghost use Rattle.layout.specs.Located.{Room};
 ghost use Rattle.call_answers.specs.Answers.{said_of, told_of};
 ghost use Rattle.call_answers.specs.Writing.{Gives};
@@ -18,8 +19,8 @@ use call_answers::{Refusal, Written, cleared, finish, keep};
 use call_inputs::{
     Nodes, WORK_LIMIT, accept, accept_table, conflicts, few_nodes, known_types, load_both,
 };
-use layout::Table;
-use qptr::{MEMORY, OPAQUE};
+use layout::{Setting, Table};
+use qptr::{Choices, MEMORY, OPAQUE};
 use report::Report;
 use stream::Found;
 
@@ -52,6 +53,7 @@ pub(super) fn sound(
 // Does a type, at an offset, support the usage of a Memory stream? It is loaded as for `sound`. The asked type is needed as those of the stream
 // are. `call_inputs::accept` does not do here, since refusal 6 comes between its 5 and its 7.
 pub(super) fn supports(
+    choices: Choices,
     table: &[u8],
     work: &mut [u8],
     starts: &mut [u32],
@@ -60,26 +62,29 @@ pub(super) fn supports(
     s: &[u8],
 ) -> Result<bool, Refusal>
     requires { Room table.now starts.old }
-    ensures { said_of result ≡ supports_call table.now (length work.old) ty offset s.now }
+    ensures { said_of result ≡ supports_call (choices_in choices) table.now (length work.old) ty offset s.now }
 {
     let types = accept_table(table, work, starts)?;
     let found = stream::memory(s, work).ok_or(Refusal::BadFirst)?;
     known_types(types, found.types.max(u64::from(ty) + 1))?;
-    let table = Table {
-        bytes: table,
-        starts,
+    let setting = Setting {
+        table: Table {
+            bytes: table,
+            starts,
+        },
+        choices,
     };
-    if !table.is_concrete(ty) {
+    if !setting.table.is_concrete(ty) {
         return Err(Refusal::NotConcrete);
     }
     few_nodes(found.nodes)?;
     stream_load::load(s, 1, found.nodes, work, 1);
-    Ok(support::supports_usage_at_offset(&table, ty, offset, work, 1))
+    Ok(support::supports_usage_at_offset(&setting, ty, offset, work, 1))
 }
 
 // The usages of two Memories are loaded, and the second is put into the first at an offset.
 fn place_loaded(
-    table: &Table<'_>,
+    setting: &Setting<'_>,
     first: &[u8],
     offset: u32,
     second: &[u8],
@@ -88,17 +93,18 @@ fn place_loaded(
     output: &mut [u8],
     rep: &mut [u8],
 ) -> Result<Written, Refusal>
-    requires { PairReady table.now first.now second.now nodes work.old }
-    ensures { PairGiven 0x0A (placing offset) table.now first.now second.now nodes output.old rep.old result output.new rep.new }
+    requires { PairReady setting.now first.now second.now nodes work.old }
+    ensures { PairGiven 0x0A (placing offset) setting.now first.now second.now nodes output.old rep.old result output.new rep.new }
 {
     load_both(first, second, nodes, work);
     let mut report = Report { buffer: rep, at: 0 };
-    let merged = merge_mem_at(table, work, 1, offset, 1 + nodes.first, &mut report);
+    let merged = merge_mem_at(setting, work, 1, offset, 1 + nodes.first, &mut report);
     finish(MEMORY, merged, work, output, &mut report)
 }
 
 // The second Memory is put into the first at an offset.
 pub(super) fn place(
+    choices: Choices,
     table: &[u8],
     work: &mut [u8],
     starts: &mut [u32],
@@ -109,7 +115,7 @@ pub(super) fn place(
     rep: &mut [u8],
 ) -> Result<Written, Refusal>
     requires { Room table.now starts.old }
-    ensures { Gives (place_call table.now (length work.old) first.now offset second.now output.old (length rep.old)) result output.new rep.new }
+    ensures { Gives (place_call (choices_in choices) table.now (length work.old) first.now offset second.now output.old (length rep.old)) result output.new rep.new }
 {
     let a = stream::memory(first, work);
     let b = stream::memory(second, work);
@@ -117,12 +123,15 @@ pub(super) fn place(
         Ok(nodes) => nodes,
         Err(refusal) => return cleared(Err(refusal), rep),
     };
-    let table = Table {
-        bytes: table,
-        starts,
+    let setting = Setting {
+        table: Table {
+            bytes: table,
+            starts,
+        },
+        choices,
     };
     place_loaded(
-        &table,
+        &setting,
         first,
         offset,
         second,
@@ -136,7 +145,7 @@ pub(super) fn place(
 // The usages of two tops that begin with the same byte are loaded and merged. From `place_loaded` it differs in the call and in the first byte,
 // and one function for both would have to be told both.
 fn merge_loaded(
-    table: &Table<'_>,
+    setting: &Setting<'_>,
     top: u8,
     first: &[u8],
     second: &[u8],
@@ -145,17 +154,18 @@ fn merge_loaded(
     output: &mut [u8],
     rep: &mut [u8],
 ) -> Result<Written, Refusal>
-    requires { PairReady table.now first.now second.now nodes work.old }
-    ensures { PairGiven top merging table.now first.now second.now nodes output.old rep.old result output.new rep.new }
+    requires { PairReady setting.now first.now second.now nodes work.old }
+    ensures { PairGiven top merging setting.now first.now second.now nodes output.old rep.old result output.new rep.new }
 {
     load_both(first, second, nodes, work);
     let mut report = Report { buffer: rep, at: 0 };
-    let merged = merge_mem(table, work, 1, 1 + nodes.first, &mut report);
+    let merged = merge_mem(setting, work, 1, 1 + nodes.first, &mut report);
     finish(top, merged, work, output, &mut report)
 }
 
 // Two Buffers or two Memories are merged; of others the first stays.
 pub(super) fn merge(
+    choices: Choices,
     table: &[u8],
     work: &mut [u8],
     starts: &mut [u32],
@@ -165,7 +175,7 @@ pub(super) fn merge(
     rep: &mut [u8],
 ) -> Result<Written, Refusal>
     requires { Room table.now starts.old }
-    ensures { Gives (merge_call table.now (length work.old) first.now second.now output.old (length rep.old)) result output.new rep.new }
+    ensures { Gives (merge_call (choices_in choices) table.now (length work.old) first.now second.now output.old (length rep.old)) result output.new rep.new }
 {
     let a = stream::top(first, work);
     let b = stream::top(second, work);
@@ -180,32 +190,36 @@ pub(super) fn merge(
     if top != second[0] {
         return keep(first, true, output, rep);
     }
-    let table = Table {
-        bytes: table,
-        starts,
+    let setting = Setting {
+        table: Table {
+            bytes: table,
+            starts,
+        },
+        choices,
     };
     let work = &mut work[..area()];
-    merge_loaded(&table, top, first, second, nodes, work, output, rep)
+    merge_loaded(&setting, top, first, second, nodes, work, output, rep)
 }
 
 // The nodes of an accepted list are merged one after the other.
 fn fold_loaded(
-    table: &Table<'_>,
+    setting: &Setting<'_>,
     list: &[u8],
     work: &mut [u8],
     output: &mut [u8],
     rep: &mut [u8],
 ) -> Result<Written, Refusal>
-    requires { FoldReady table.now list.now work.old }
-    ensures { ListGiven table.now list.now output.old rep.old result output.new rep.new }
+    requires { FoldReady setting.now list.now work.old }
+    ensures { ListGiven setting.now list.now output.old rep.old result output.new rep.new }
 {
     let mut report = Report { buffer: rep, at: 0 };
-    let merged = call_fold::fold_nodes(table, list, work, &mut report);
+    let merged = call_fold::fold_nodes(setting, list, work, &mut report);
     finish(MEMORY, merged, work, output, &mut report)
 }
 
 // The nodes of a list, merged one after the other.
 pub(super) fn fold(
+    choices: Choices,
     table: &[u8],
     work: &mut [u8],
     starts: &mut [u32],
@@ -214,7 +228,7 @@ pub(super) fn fold(
     rep: &mut [u8],
 ) -> Result<Written, Refusal>
     requires { Room table.now starts.old }
-    ensures gives { Gives (fold_call table.now (length work.old) list.now output.old (length rep.old)) result output.new rep.new }
+    ensures gives { Gives (fold_call (choices_in choices) table.now (length work.old) list.now output.old (length rep.old)) result output.new rep.new }
     ensures promised { Promised table.now list.now (told_of result) output.new }
 {
     let found = stream::list(list, work);
@@ -222,9 +236,12 @@ pub(super) fn fold(
         Ok(_) => {}
         Err(refusal) => return cleared(Err(refusal), rep),
     }
-    let table = Table {
-        bytes: table,
-        starts,
+    let setting = Setting {
+        table: Table {
+            bytes: table,
+            starts,
+        },
+        choices,
     };
-    fold_loaded(&table, list, &mut work[..area()], output, rep)
+    fold_loaded(&setting, list, &mut work[..area()], output, rep)
 }

@@ -33,5 +33,7 @@ pub mod Tested
 -- any placing, merge and fold again: few pairings, and answers that read back
 pub mod FewPairings
 pub mod ReadsBack
+-- what a choice changes
+pub mod Choices
 -- the worked rows
 pub mod Bench

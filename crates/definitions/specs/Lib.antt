@@ -11,3 +11,4 @@ pub mod Place
 pub mod Sound
 pub mod Calls
 pub mod Inner
+pub mod Requests

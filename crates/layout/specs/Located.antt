@@ -5,9 +5,11 @@ use Rattle.std.proofs.Math.Option.{none as nothing, some}
 use Rattle.definitions.specs.Limits.{record_limit}
 use Rattle.definitions.specs.Stream.{read}
 use Rattle.definitions.specs.Table.{Table as Layouts, Setting, TypeLayout as Layout, layout_of, is_concrete, read_layout, fields_admitted, admitted, table_of}
+use Rattle.qptr.specs.Choices.{choices_in}
 use Rattle.layout.specs.Bytes.{record_count, fields_at}
 use Rattle.layout.specs.Values.{layout_in, Formed}
 use Rattle.layout.specs.declared.table.FieldList.{FieldList}
+use Rattle.layout.specs.declared.setting.Setting.{Setting as CodeSetting}
 use Rattle.layout.specs.declared.table.Table.{Table}
 use Rattle.layout.specs.declared.table.TypeLayout.{TypeLayout}
 
@@ -21,10 +23,11 @@ pub record Located (t : Table) (ls : Layouts) (ty : ℕ) : Type 0 where
 abbrev pub AllLocated : Table → Layouts → Type 0
 AllLocated t ls = (ty : ℕ) → ty < length ls → Located t ls ty
 
--- the table that the bytes are is the setting's, and its records start there
-pub record Known (t : Table) (st : Setting) : Type 0 where
-  pub read : table_of t.bytes.now ≡ some st.table
-  pub placed : AllLocated t st.table
+-- the setting that the code has: the table that its bytes are, whose records start there, and its choices
+pub record Known (code : CodeSetting) (st : Setting) : Type 0 where
+  pub read : table_of code.table.bytes.now ≡ some st.table
+  pub placed : AllLocated code.table st.table
+  pub chosen : choices_in code.choices ≡ st.choices
 
 -- A type's layout. What is said holds of all records that stand in t.
 

@@ -1,5 +1,6 @@
-// Layout tables: which bytes are one, what the record of a type says, and which of its components contain a range. Records are read where
-// they start, and a list of fields is a byte's number too: `accept` keeps these in 32 bits, where a slice of the rest would take four times the room.
+// Layout tables: which bytes are one, what the record of a type says, and which of its components contain a range; and the setting of a call, a
+// table with choices. Records are read where they start, and a list of fields is a byte's number too: `accept` keeps these in 32 bits, where a
+// slice of the rest would take four times the room.
 #![tactic(auto)]
 
 ghost use Rattle.std.specs.Prelude.{◌≡◌, true, ◌≤◌};
@@ -12,9 +13,11 @@ use numbers::get16;
 mod admission;
 mod containment;
 mod format;
+mod setting;
 mod table;
 
 pub use containment::{Component, end_of};
+pub use setting::Setting;
 pub use table::{Array, Components, FieldList, Table, TypeLayout};
 
 // How many records a table may have.

@@ -7,6 +7,7 @@ use Rattle.definitions.specs.Limits.{work_limit}
 use Rattle.definitions.specs.Usage.{top_nodes}
 use Rattle.definitions.specs.Stream.{write_top, top_of}
 use Rattle.definitions.specs.Place.{Result, refused, done, under, merge}
+use Rattle.definitions.specs.Requests.Choices.{Choices, rust}
 use Rattle.definitions.specs.Calls.{Written, given, with_table, top_types_in, checked, kept, written, merge_call}
 use Rattle.definitions.proofs.Choice.{either, decide}
 use Rattle.merge_line.specs.declared.Writer.{Writer}
@@ -42,15 +43,15 @@ module _ (output : List ℕ) (n : ℕ) where
         report_length = simp (length-append, length-replicate) (omega arith);
       }))
 
-pub merge_held : (table : List ℕ) (work : ℕ) (first second output : List ℕ) (n : ℕ) → Held (length output) n (merge_call table work first second output n)
+pub merge_held : (ch : Choices) (table : List ℕ) (work : ℕ) (first second output : List ℕ) (n : ℕ) → Held (length output) n (merge_call ch table work first second output n)
 unfolding merge_call
-merge_held table work first second output n =
+merge_held ch table work first second output n =
     written_held output n
-    (with_table work table λ st.
+    (with_table work table λ t.
     given 3 (top_of first) λ a.
     given 4 (top_of second) λ b.
-    checked (top_types_in st.table a && top_types_in st.table b) (top_nodes a + top_nodes b)
-    (under write_top (merge st a b)))
+    checked (top_types_in t a && top_types_in t b) (top_nodes a + top_nodes b)
+    (under write_top (merge (record { table = t; choices = ch }) a b)))
 
 pub zeros_length : (n : ℕ) → length (zeros n) ≡ n
 unfolding zeros
@@ -83,8 +84,8 @@ answer_short w held =
 line_for_short : (b : Option Blocks) → length (line_for b) ≤ line_limit
 line_for_short nothing = omega arith
 line_for_short (some b) =
-    answer_short (merge_call b.table work_limit b.first b.second (zeros buffer_length) buffer_length)
-    (rw (zeros_length buffer_length) at (merge_held b.table work_limit b.first b.second (zeros buffer_length) buffer_length))
+    answer_short (merge_call rust b.table work_limit b.first b.second (zeros buffer_length) buffer_length)
+    (rw (zeros_length buffer_length) at (merge_held rust b.table work_limit b.first b.second (zeros buffer_length) buffer_length))
 
 line_short : (input : List ℕ) → length (line_of input) ≤ line_limit
 unfolding line_of

@@ -4,6 +4,10 @@ use Rattle.std.proofs.Common.{◌≡◌, ℕ, ◌≤◌, List, [], ◌∷◌, �
 use Rattle.std.specs.Prelude.{Result as Returned}
 use mathlib.Core.Option.{none as nothing, some}
 use Rattle.definitions.specs.Limits.{work_limit}
+use Rattle.definitions.specs.Requests.Choices.{rust}
+use Rattle.qptr.specs.Choices.{choices_in}
+use Rattle.qptr.specs.declared.choices.TheConstants.Choices.{RUST}
+use Rattle.qptr.proofs.Chosen.{rust_is}
 use Rattle.definitions.specs.Calls.{Answer as Told, Written, merge_call}
 use Rattle.call_answers.specs.Answers.{answer_of, told_of}
 use Rattle.call_answers.specs.Writing.{Gives}
@@ -36,18 +40,18 @@ given e g = same_written (e ∙ g.numbers) g.usage g.reported
 
 -- a merge with the program's buffers
 pub record Merged (table first second : List ℕ) (a : Answer) (output report : List ℕ) : Type 0 where
-  pub is : written a output report ≡ merge_call table work_limit first second (zeros buffer_length) buffer_length
+  pub is : written a output report ≡ merge_call rust table work_limit first second (zeros buffer_length) buffer_length
   pub usage_fits : a.usage ≤ length output
   pub report_fits : a.report ≤ length report
 
 pub merge_given : (table first second work output report : List ℕ) {r : Returned Lengths Refusal} {a : Answer} {output' report' : List ℕ} → answer_of a ≡ told_of r → length work ≡ work_limit
-    → output ≡ zeros buffer_length → report ≡ zeros buffer_length → Gives (merge_call table (length work) first second output (length report)) r output' report'
+    → output ≡ zeros buffer_length → report ≡ zeros buffer_length → Gives (merge_call (choices_in RUST) table (length work) first second output (length report)) r output' report'
     → Merged table first second a output' report'
 merge_given table first second work output report {r} {a} {output'} {report'} e work-length output-zeros report-zeros g =
     let report_length : length report ≡ buffer_length = rw report-zeros (zeros_length buffer_length) in
-    let held : Held (length output) (length report) (written a output' report') = rw (given e g) (merge_held table (length work) first second output (length report)) in
+    let held : Held (length output) (length report) (written a output' report') = rw (given e g) (merge_held (choices_in RUST) table (length work) first second output (length report)) in
     record {
-      is = given e g ∙ rw (report_length, work-length, output-zeros);
+      is = given e g ∙ rw (rust_is, report_length, work-length, output-zeros);
       usage_fits = omega arith;
       report_fits = omega arith;
     }

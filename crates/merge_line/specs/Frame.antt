@@ -6,6 +6,7 @@ use Rattle.definitions.specs.If.{when◌then◌else◌}
 use Rattle.definitions.specs.Limits.{work_limit}
 use Rattle.definitions.specs.Stream.{Read, broken, read, ◌then◌, number, whole}
 use Rattle.definitions.specs.Calls.{Written, merge_call}
+use Rattle.definitions.specs.Requests.Choices.{rust}
 
 -- The input: three blocks, each behind its length (4), and nothing left over; 64 KiB at most
 
@@ -69,7 +70,7 @@ answer_line w =
 -- `merge_line` where the input is not three blocks
 abbrev pub line_for : Option Blocks → List ℕ
 line_for nothing = 0x66 ∷ 0x72 ∷ 0x61 ∷ 0x6D ∷ 0x65 ∷ 0x0A ∷ []
-line_for (some b) = answer_line (merge_call b.table work_limit b.first b.second (zeros buffer_length) buffer_length)
+line_for (some b) = answer_line (merge_call rust b.table work_limit b.first b.second (zeros buffer_length) buffer_length)
 
 unfoldable pub line_of : List ℕ → List ℕ
 line_of input = line_for (blocks_of input)

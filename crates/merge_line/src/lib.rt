@@ -11,6 +11,7 @@ ghost use Rattle.merge_line.specs.Answered.{written};
 use call_answers::Answer;
 use call_inputs::WORK_LIMIT;
 use numbers::get32;
+use qptr::Choices;
 
 // The longest input.
 const INPUT: usize = 65536;
@@ -168,6 +169,7 @@ impl Writer<'_> {
         let mut output = zeros::<BUFFER_LEN>();
         let mut rep = zeros::<BUFFER_LEN>();
         let merge = calls::merge(
+            Choices::RUST,
             parts.table,
             &mut work,
             parts.first,

@@ -16,7 +16,7 @@ use Rattle.record_links.proofs.Stands.{stands_le, stands_marks, stands_wide}
 use Rattle.record_links.proofs.Frames.{kept_marks, kept_set, kept_trans, kept_widen}
 use Rattle.record_links.proofs.Changes.{stands_type}
 use Rattle.layout.specs.Located.{Known}
-use Rattle.layout.specs.declared.table.Table.{Table}
+use Rattle.layout.specs.declared.setting.Setting.{Setting as CodeSetting}
 use Rattle.qptr.specs.Values.{command_of, kind_of}
 use Rattle.qptr.specs.declared.Kind.{Kind}
 use Rattle.report.specs.Emitted.{Emitted}
@@ -43,15 +43,15 @@ strict_command false (leaf z false t) e f S = ap command_of (S.neither (λ h. cc
 strict_command false (map z es) e f S = ap command_of (S.neither (λ h. cc) (λ h. cc))
 strict_command false (array z n u) e f S = ap command_of (S.neither (λ h. cc) (λ h. cc))
 
-pub leaf_begins : (table : Table) (s s₁ s' : List ℕ) (rep rep' : Report) (a d b : ℕ) (x y v : Kind) (kept : Kept) (st : State) → Plain (command_in s b) d → Typed (command_in s a)
-    → Keeps table s a d b kept → Unchanged s s₁ → x ≡ kind_of (command_in s₁ a) → y ≡ kind_of (command_in s₁ b) → Stricter x y v
+pub leaf_begins : (code : CodeSetting) (s s₁ s' : List ℕ) (rep rep' : Report) (a d b : ℕ) (x y v : Kind) (kept : Kept) (st : State) → Plain (command_in s b) d → Typed (command_in s a)
+    → Keeps code s a d b kept → Unchanged s s₁ → x ≡ kind_of (command_in s₁ a) → y ≡ kind_of (command_in s₁ b) → Stricter x y v
     → Set s₁ s' a (with_type (command_of v) kept.ty (cell s₁ a)) → length s' ≡ length s₁ → Emitted rep (report_of kept.conflict kept.ty) rep' → st ≡ finished_state a 1
-    → Begins table s a d b rep s' rep' (Ok st)
-leaf_begins table s s₁ s' rep rep' a d b x y v kept st plain T K U e₀ e₁ S W len E e = rw e (record {
+    → Begins code s a d b rep s' rep' (Ok st)
+leaf_begins code s s₁ s' rep rep' a d b x y v kept st plain T K U e₀ e₁ S W len E e = rw e (record {
   next = λ setting known t u r lo mid hi two short. go setting known u r lo mid hi (left_leaf two T) two;
 })
   where
-    go : (setting : Setting) → Known table setting → (u : Usage) (r : ℕ → ℕ) (lo mid hi : ℕ) {t : Usage} → IsLeaf t → Two (length setting.table) s a b r lo mid hi t u
+    go : (setting : Setting) → Known code setting → (u : Usage) (r : ℕ → ℕ) (lo mid hi : ℕ) {t : Usage} → IsLeaf t → Two (length setting.table) s a b r lo mid hi t u
         → Next setting (after [] 1 (place_by_kind setting (place setting) t d u)) (ground s r lo hi rep) (nodes t + nodes u) s' rep' a (finished_state a 1)
     go setting known u r lo mid hi (is_leaf z k t) two =
         let strict : command_of v ≡ typed_command (k || is_strict u) =

@@ -16,7 +16,7 @@ use Rattle.definitions.specs.Sound.{Storable}
 use Rattle.records.specs.Records.{argument_in}
 use Rattle.record_links.specs.Standing.{Stands}
 use Rattle.layout.specs.Located.{Known}
-use Rattle.layout.specs.declared.table.Table.{Table}
+use Rattle.layout.specs.declared.setting.Setting.{Setting as CodeSetting}
 use Rattle.place_states.specs.Calls.{Two}
 use Rattle.std.proofs.lemmas.Bool.{both_ways}
 use Rattle.support.specs.Supported.{Asked}
@@ -28,7 +28,7 @@ use Rattle.place_leaf.proofs.Deciding.{said_no, decides}
 use Rattle.place_leaf.proofs.Typing.{leaf_type, LeafOf, leaf_of, typed_at}
 
 -- an answer in a setting
-answers : {table : Table} {ty d : ℕ} {s : List ℕ} {q : ℕ} {a : Result Bool NotAsked} → Asked table ty d s q a → (setting : Setting) → Known table setting
+answers : {code : CodeSetting} {ty d : ℕ} {s : List ℕ} {q : ℕ} {a : Result Bool NotAsked} → Asked code ty d s q a → (setting : Setting) → Known code setting
     → ty < length setting.table → (u : Usage) (r : ℕ → ℕ) (lo hi : ℕ) → Stands u s q r lo hi → (other : Kept) (x : KeptType) → (a ≡ Ok false → kept_of other ≡ x)
     → kept_of (decided a ty other) ≡ asked setting ty d u x
 answers {ty} {d} {a} A setting known below u r lo hi h other x same =
@@ -47,9 +47,9 @@ own {s = s} {a = a} {z = z} {x = x} {t = t} {r = r} {lo = lo} {mid = mid} here t
 its_below : {k c : ℕ} {u : Usage} → LeafOf c u → Storable k u → c < k
 its_below (leaf_of z x) f = f.1
 
-module _ {table : Table} {s : List ℕ} {a d b ty : ℕ} (here : ty ≡ argument_in s a) where
+module _ {code : CodeSetting} {s : List ℕ} {a d b ty : ℕ} (here : ty ≡ argument_in s a) where
   -- b has none
-  pub keeps_one : {w : Result Bool NotAsked} {y : Kept} → TypeAt s b d None → Asked table ty d s b w → y ≡ decided w ty (differing ty) → Keeps table s a d b y
+  pub keeps_one : {w : Result Bool NotAsked} {y : Kept} → TypeAt s b d None → Asked code ty d s b w → y ≡ decided w ty (differing ty) → Keeps code s a d b y
   keeps_one {w} T A e = record {
     is = λ setting known z k t' u r lo mid hi two.
         let same : ty ≡ t' = own here two in
@@ -59,7 +59,7 @@ module _ {table : Table} {s : List ℕ} {a d b ty : ℕ} (here : ty ≡ argument
 
   -- b's type is c
   module _ {c : ℕ} (T : TypeAt s b d (Some c)) where
-    pub keeps_equal : c ≡ ty → Keeps table s a d b (record { ty = ty; conflict = None })
+    pub keeps_equal : c ≡ ty → Keeps code s a d b (record { ty = ty; conflict = None })
     unfolding when◌then◌else◌
     keeps_equal e = record {
       is = λ setting known z k t' u r lo mid hi two.
@@ -67,8 +67,8 @@ module _ {table : Table} {s : List ℕ} {a d b ty : ℕ} (here : ty ≡ argument
           rw (T.is u r mid hi two.right, ← same, eq-eqb c ty e);
     }
 
-    module _ {w : Result Bool NotAsked} {y : Kept} (differ : c ≡ ty → ⊥) (A : Asked table ty d s b w) where
-      pub keeps_first : {n : Bool} → n ≡ is_no w → n ≡ false → y ≡ decided w ty (differing ty) → Keeps table s a d b y
+    module _ {w : Result Bool NotAsked} {y : Kept} (differ : c ≡ ty → ⊥) (A : Asked code ty d s b w) where
+      pub keeps_first : {n : Bool} → n ≡ is_no w → n ≡ false → y ≡ decided w ty (differing ty) → Keeps code s a d b y
       unfolding when◌then◌else◌
       keeps_first is said e = record {
         is = λ setting known z k t' u r lo mid hi two.
@@ -78,7 +78,7 @@ module _ {table : Table} {s : List ℕ} {a d b ty : ℕ} (here : ty ≡ argument
             (asked setting c 0 (leaf z k ty) (kept_of (differing ty))) (λ none_said. absurd (no_no (sym is ∙ said) none_said)));
       }
 
-      pub keeps_second : {n : Bool} {w' : Result Bool NotAsked} → n ≡ is_no w → n ≡ true → Asked table c 0 s a w' → y ≡ decided w' c (differing ty) → Keeps table s a d b y
+      pub keeps_second : {n : Bool} {w' : Result Bool NotAsked} → n ≡ is_no w → n ≡ true → Asked code c 0 s a w' → y ≡ decided w' c (differing ty) → Keeps code s a d b y
       unfolding when◌then◌else◌
       keeps_second {w' = w'} is said A' e = record {
         is = λ setting known z k t' u r lo mid hi two.

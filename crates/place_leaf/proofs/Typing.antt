@@ -18,7 +18,7 @@ use Rattle.qptr.specs.declared.Kind.TheVariants.{Unused, StrictlyTyped, DirectAc
 use Rattle.records.specs.Records.{command_in, argument_in}
 use Rattle.record_links.specs.Standing.{Stands}
 use Rattle.record_links.proofs.Stands.{stands_root}
-use Rattle.layout.specs.declared.table.Table.{Table}
+use Rattle.layout.specs.declared.setting.Setting.{Setting as CodeSetting}
 use Rattle.support_cache.proofs.Roots.{command_of_kind}
 use Rattle.place_states.specs.Calls.{Two, Ready}
 use Rattle.place_states.proofs.Roots.{left_command}
@@ -89,8 +89,8 @@ typed_at zero (array z n v) e = let z : ◌≡◌ {A = ℕ} 0 1 = cc in absurd (
 
 -- what may be asked
 
-module _ {table : Table} {s : List ℕ} {a b : ℕ} (R : Ready table s a b) where
-  pub askable_right : {ty : ℕ} → Typed (command_in s a) → ty ≡ argument_in s a → Askable table ty s b
+module _ {code : CodeSetting} {s : List ℕ} {a b : ℕ} (R : Ready code s a b) where
+  pub askable_right : {ty : ℕ} → Typed (command_in s a) → ty ≡ argument_in s a → Askable code ty s b
   askable_right {ty} T e = record {
     type = record { setting = R.setting; known = R.known; below = go (left_leaf R.two T) R.two };
     usage = record {
@@ -108,7 +108,7 @@ module _ {table : Table} {s : List ℕ} {a b : ℕ} (R : Ready table s a b) wher
       go : {t : Usage} → IsLeaf t → Two (length R.setting.table) s a b R.r R.lo R.mid R.hi t R.u → ty < length R.setting.table
       go (is_leaf z k t) two = omega (arith, two.left_fits.1, leaf_type z k t s a R.r R.lo R.mid two.left)
 
-  pub askable_left : {d c : ℕ} → TypeAt s b d (Some c) → Askable table c s a
+  pub askable_left : {d c : ℕ} → TypeAt s b d (Some c) → Askable code c s a
   askable_left {d} {c} A = record {
     type = record {
       setting = R.setting;

@@ -8,7 +8,7 @@ use Rattle.definitions.specs.Place.{type_at_zero, Kept as KeptType, kept_type, t
 use Rattle.qptr.specs.declared.Kind.{Kind}
 use Rattle.qptr.specs.declared.Kind.TheVariants.{StrictlyTyped, DirectAccess}
 use Rattle.layout.specs.Located.{Known}
-use Rattle.layout.specs.declared.table.Table.{Table}
+use Rattle.layout.specs.declared.setting.Setting.{Setting as CodeSetting}
 use Rattle.place_states.specs.Calls.{Two}
 use Rattle.support.specs.Supported.{OfEach}
 use Rattle.support.specs.declared.NotAsked.{NotAsked}
@@ -62,6 +62,6 @@ decided (Ok true) ty otherwise = record { ty = ty; conflict = None }
 decided (Err why) ty otherwise = record { ty = ty; conflict = Some (conflict_of why) }
 
 -- the type that is kept is the one that rule 4 keeps
-pub record Keeps (table : Table) (s : List ℕ) (a d b : ℕ) (r : Kept) : Type 0 where
-  pub is : (setting : Setting) → Known table setting → (z : Size) (k : Bool) (ty : ℕ) (u : Usage) (rank : ℕ → ℕ) (lo mid hi : ℕ) → Two (length setting.table) s a b rank lo mid hi (leaf z k ty) u
+pub record Keeps (code : CodeSetting) (s : List ℕ) (a d b : ℕ) (r : Kept) : Type 0 where
+  pub is : (setting : Setting) → Known code setting → (z : Size) (k : Bool) (ty : ℕ) (u : Usage) (rank : ℕ → ℕ) (lo mid hi : ℕ) → Two (length setting.table) s a b rank lo mid hi (leaf z k ty) u
       → kept_of r ≡ kept_type setting (leaf z k ty) ty d u (type_at_zero d u)

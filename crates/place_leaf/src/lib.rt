@@ -9,7 +9,7 @@ ghost use Rattle.place_states.specs.Starts.{Plain, Begins};
 ghost use Rattle.support_cache.specs.Nodes.{Unchanged};
 ghost use Rattle.place_leaf.specs.Leaves.{Typed, TypeAt, Stricter, report_of, conflict_of, is_no, decided, Keeps};
 
-use layout::Table;
+use layout::Setting;
 use place_states::State;
 use qptr::Kind;
 use records::{argument, kind, put_type};
@@ -76,10 +76,10 @@ fn decide(asked: Result<bool, NotAsked>, ty: u32, otherwise: Kept) -> Kept
 }
 
 // The type kept of a, with b at d. b's type is asked only if a's does not support b.
-fn kept_type(table: &Table<'_>, s: &mut [u8], a: usize, d: u32, b: usize) -> Kept
-    requires ready { Ready table.now s.old a b }
+fn kept_type(setting: &Setting<'_>, s: &mut [u8], a: usize, d: u32, b: usize) -> Kept
+    requires ready { Ready setting.now s.old a b }
     requires typed { Typed (command_in s.old a) }
-    ensures keeps { Keeps table.now s.old a d b result }
+    ensures keeps { Keeps setting.now s.old a d b result }
     ensures unchanged { Unchanged s.old s.new }
 {
     let ty = argument(s, a);
@@ -88,14 +88,14 @@ fn kept_type(table: &Table<'_>, s: &mut [u8], a: usize, d: u32, b: usize) -> Kep
         conflict: Some(Conflict::Types),
     };
     let Some(c) = type_at(s, b, d) else {
-        return decide(ask(table, ty, d, s, b), ty, other);
+        return decide(ask(setting, ty, d, s, b), ty, other);
     };
     if c == ty {
         return Kept { ty, conflict: None };
     }
-    let asked = ask(table, ty, d, s, b);
+    let asked = ask(setting, ty, d, s, b);
     if is_no(asked) {
-        return decide(ask(table, c, 0, s, a), c, other);
+        return decide(ask(setting, c, 0, s, a), c, other);
     }
     decide(asked, ty, other)
 }
@@ -127,19 +127,19 @@ fn report_conflict(report: &mut Report<'_>, kept: Kept)
 
 // b is placed at d in a, a leaf.
 pub fn begin_leaf(
-    table: &Table<'_>,
+    setting: &Setting<'_>,
     s: &mut [u8],
     a: usize,
     d: u32,
     b: usize,
     report: &mut Report<'_>,
 ) -> State
-    requires ready { Ready table.now s.old a b }
+    requires ready { Ready setting.now s.old a b }
     requires plain { Plain (command_in s.old b) d }
     requires typed { Typed (command_in s.old a) }
-    ensures { Begins table.now s.old a d b report.old s.new report.new (Ok result) }
+    ensures { Begins setting.now s.old a d b report.old s.new report.new (Ok result) }
 {
-    let kept = kept_type(table, s, a, d, b);
+    let kept = kept_type(setting, s, a, d, b);
     let c = stricter(kind(s, a), kind(s, b));
     put_type(s, a, u16::from(c.command()), kept.ty);
     report_conflict(report, kept);

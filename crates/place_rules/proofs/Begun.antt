@@ -6,7 +6,7 @@ use Rattle.definitions.specs.Usage.{Usage, nodes}
 use Rattle.definitions.specs.Table.{Setting}
 use Rattle.definitions.specs.Place.{Result, refused, after, size_refusal, unless_refused, place_by_kind, place}
 use Rattle.definitions.proofs.PlaceFuel.{place_is}
-use Rattle.layout.specs.declared.table.Table.{Table}
+use Rattle.layout.specs.declared.setting.Setting.{Setting as CodeSetting}
 use Rattle.qptr.specs.Values.{size_of, command_of, kind_of}
 use Rattle.qptr.specs.declared.Kind.{Kind}
 use Rattle.qptr.specs.declared.MaxSize.{MaxSize}
@@ -30,7 +30,7 @@ use Rattle.place_states.proofs.Room.{place_short}
 
 -- A usage's record has a kind's command, so its kind says which.
 
-module _ {table : Table} {s : List ℕ} {a b : ℕ} (R : Ready table s a b) (k : Kind) where
+module _ {code : CodeSetting} {s : List ℕ} {a b : ℕ} (R : Ready code s a b) (k : Kind) where
   pub left_of_kind : k ≡ kind_of (command_in s a) → command_in s a ≡ command_of k
   left_of_kind e = kind_says R.t s a R.r R.lo R.mid k e R.two.left
 
@@ -38,8 +38,8 @@ module _ {table : Table} {s : List ℕ} {a b : ℕ} (R : Ready table s a b) (k :
   right_of_kind e = kind_says R.u s b R.r R.mid R.hi k e R.two.right
 
 -- rule 1
-pub begins_unused : (table : Table) (s : List ℕ) (rep : Report) (a d b : ℕ) (st : State) → command_in s b ≡ 0 → st ≡ finished_state a 1 → Begins table s a d b rep s rep (Ok st)
-begins_unused table s rep a d b st none e = rw e (record {
+pub begins_unused : (code : CodeSetting) (s : List ℕ) (rep : Report) (a d b : ℕ) (st : State) → command_in s b ≡ 0 → st ≡ finished_state a 1 → Begins code s a d b rep s rep (Ok st)
+begins_unused code s rep a d b st none e = rw e (record {
   next = λ setting known t u r lo mid hi two short. go setting (right_unused two none) t r lo mid hi two short;
 })
   where
@@ -48,13 +48,13 @@ begins_unused table s rep a d b st none e = rw e (record {
         → Next setting (after [] 1 (place_by_kind setting (place setting) t d u)) (ground s r lo hi rep) (nodes t + nodes u) s rep a (finished_state a 1)
     go setting (is_unused_lem z) t r lo mid hi two short = next_kept setting two _ [] (emitted_nothing rep (omega (arith, short.0)))
 
-module _ (table : Table) (s : List ℕ) (rep : Report) (a d b : ℕ) (za zb : MaxSize) (ea : size_of za ≡ size_in s a) (eb : size_of zb ≡ size_in s b) where
+module _ (code : CodeSetting) (s : List ℕ) (rep : Report) (a d b : ℕ) (za zb : MaxSize) (ea : size_of za ≡ size_in s a) (eb : size_of zb ≡ size_in s b) where
   -- what the placing is
   by_sizes : {n : ℕ} {r : ℕ → ℕ} {lo mid hi : ℕ} (k : ℕ) → k ≡ size_refusal (size_of za) d (size_of zb) → (setting : Setting) (t u : Usage) → Two n s a b r lo mid hi t u
       → place setting t d u ≡ unless_refused k (after [] 1 (place_by_kind setting (place setting) t d u))
   by_sizes k ek setting t u two = place_is setting t d u ∙ rw (ek, ea, eb, left_size two, right_size two) refl
 
-  pub began_refused : (e : SizeRefusal) → number_of e ≡ size_refusal (size_of za) d (size_of zb) → Began table s a d b rep s rep (Err e)
+  pub began_refused : (e : SizeRefusal) → number_of e ≡ size_refusal (size_of za) d (size_of zb) → Began code s a d b rep s rep (Err e)
   began_refused e ek = record {
     next = λ setting known t u r lo mid hi two.
         (by_sizes (number_of e) ek setting t u two ∙ refuses e (after [] 1 (place_by_kind setting (place setting) t d u)), kept_nothing rep);
@@ -65,7 +65,7 @@ module _ (table : Table) (s : List ℕ) (rep : Report) (a d b : ℕ) (za zb : Ma
       refuses Past32 x = refl
 
   pub began_fitting : (s' : List ℕ) (rep' : Report) (r : Returned State SizeRefusal) → NoWrap rep.at (nodes_at s a + nodes_at s b) → 0 ≡ size_refusal (size_of za) d (size_of zb)
-      → Begins table s a d b rep s' rep' r → Began table s a d b rep s' rep' r
+      → Begins code s a d b rep s' rep' r → Began code s a d b rep s' rep' r
   began_fitting s' rep' r near fits B = record {
     next = λ setting known t u rank lo mid hi two.
         let is : place setting t d u ≡ after [] 1 (place_by_kind setting (place setting) t d u) = by_sizes 0 fits setting t u two in

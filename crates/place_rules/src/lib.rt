@@ -11,7 +11,7 @@ ghost use Rattle.place_states.specs.States.{Waiting, Moves};
 ghost use Rattle.place_states.specs.Starts.{Plain, Begins, Began};
 ghost use Rattle.place_rules.specs.Results.{number_in, TakesResult};
 
-use layout::Table;
+use layout::Setting;
 use place_arrays::{begin_array, next_element};
 use place_entries::{begin_entries, next_entry};
 use place_leaf::begin_leaf;
@@ -40,60 +40,60 @@ fn size_refusal(a: MaxSize, d: u32, b: MaxSize) -> Result<(), SizeRefusal>
 // Rules 3 to 6, by a's kind. What the rules take, here and in their crates, are the parameters of the source's `merge_mem_at`, handed on as it
 // has them.
 fn begin_into(
-    table: &Table<'_>,
+    setting: &Setting<'_>,
     s: &mut [u8],
     a: usize,
     d: u32,
     b: usize,
     report: &mut Report<'_>,
 ) -> Result<State, SizeRefusal>
-    requires ready { Ready table.now s.old a b }
+    requires ready { Ready setting.now s.old a b }
     requires plain { Plain (command_in s.old b) d }
-    ensures { Begins table.now s.old a d b report.old s.new report.new result }
+    ensures { Begins setting.now s.old a d b report.old s.new report.new result }
 {
     match kind(s, a) {
         Kind::Unused => Ok(begin_unused(s, a, b)),
         Kind::OffsetBase => begin_join(s, a, d, b, report),
         Kind::DynOffsetBase => Ok(begin_array(s, a, d, b, report)),
         // a leaf, of either kind
-        _ => Ok(begin_leaf(table, s, a, d, b, report)),
+        _ => Ok(begin_leaf(setting, s, a, d, b, report)),
     }
 }
 
 // Rules 1 and 2, by b's kind.
 fn begin_with(
-    table: &Table<'_>,
+    setting: &Setting<'_>,
     s: &mut [u8],
     a: usize,
     d: u32,
     b: usize,
     report: &mut Report<'_>,
 ) -> Result<State, SizeRefusal>
-    requires { Ready table.now s.old a b }
-    ensures { Begins table.now s.old a d b report.old s.new report.new result }
+    requires { Ready setting.now s.old a b }
+    ensures { Begins setting.now s.old a d b report.old s.new report.new result }
 {
     match kind(s, b) {
         Kind::Unused => Ok(State::finished(a, 1)),
         Kind::OffsetBase if d == 0 => Ok(begin_entries(s, a, b, report)),
-        _ => begin_into(table, s, a, d, b, report),
+        _ => begin_into(setting, s, a, d, b, report),
     }
 }
 
 // Sizes, then the rules.
 pub fn begin(
-    table: &Table<'_>,
+    setting: &Setting<'_>,
     s: &mut [u8],
     a: usize,
     d: u32,
     b: usize,
     report: &mut Report<'_>,
 ) -> Result<State, SizeRefusal>
-    requires ready { Ready table.now s.old a b }
+    requires ready { Ready setting.now s.old a b }
     requires near { NoWrap report.old.at (nodes_at s.old a + nodes_at s.old b) }
-    ensures { Began table.now s.old a d b report.old s.new report.new result }
+    ensures { Began setting.now s.old a d b report.old s.new report.new result }
 {
     size_refusal(max_size(s, a), d, max_size(s, b))?;
-    begin_with(table, s, a, d, b, report)
+    begin_with(setting, s, a, d, b, report)
 }
 
 // The pair, whose report began at `here`, has become what r says, which stands in its place. Its 31 is taken back if nothing was reported.

@@ -8,7 +8,7 @@ use Rattle.definitions.specs.Table.{Setting}
 use Rattle.record_links.specs.Rows.{nodes_at}
 use Rattle.record_links.proofs.Stands.{stands_root}
 use Rattle.record_links.proofs.Weights.{nodes_at_lem}
-use Rattle.layout.specs.declared.table.Table.{Table}
+use Rattle.layout.specs.declared.setting.Setting.{Setting as CodeSetting}
 use Rattle.layout.specs.Located.{Known}
 use Rattle.report.specs.declared.Report.{Report}
 use Rattle.place_states.specs.Calls.{Two, Linkable, Ready}
@@ -16,7 +16,7 @@ use Rattle.place_states.specs.Starts.{Begins, Starts}
 use Rattle.place_states.specs.declared.SizeRefusal.{SizeRefusal}
 use Rattle.place_states.specs.declared.State.{State}
 
-pub ready_two : {table : Table} {s : List ℕ} {a b : ℕ} (st : Setting) {r : ℕ → ℕ} {lo mid hi : ℕ} {t u : Usage} → Two (length st.table) s a b r lo mid hi t u → Known table st → Linkable s → Ready table s a b
+pub ready_two : {code : CodeSetting} {s : List ℕ} {a b : ℕ} (st : Setting) {r : ℕ → ℕ} {lo mid hi : ℕ} {t u : Usage} → Two (length st.table) s a b r lo mid hi t u → Known code st → Linkable s → Ready code s a b
 ready_two {s} {a} {b} st {r} {lo} {mid} {hi} {t} {u} two known linkable =
     let T = stands_root t s a r lo mid two.left in
     let U = stands_root u s b r mid hi two.right in
@@ -41,7 +41,7 @@ pub two_nodes : {k : ℕ} {s : List ℕ} {a b : ℕ} {r : ℕ → ℕ} {lo mid h
 two_nodes {s} {a} {b} {r} {lo} {mid} {hi} {t} {u} two =
     omega (arith, two.few, nodes_at_lem t s a r lo mid two.left (omega (arith, two.few)), nodes_at_lem u s b r mid hi two.right (omega (arith, two.few)))
 
-pub starts_begins : (table : Table) (s : List ℕ) (a d b : ℕ) (rep : Report) (s' : List ℕ) (rep' : Report) (r : Returned State SizeRefusal)
-    → Starts s a d b rep s' rep' r → Begins table s a d b rep s' rep' r
-starts_begins table s a d b rep s' rep' r S =
+pub starts_begins : (code : CodeSetting) (s : List ℕ) (a d b : ℕ) (rep : Report) (s' : List ℕ) (rep' : Report) (r : Returned State SizeRefusal)
+    → Starts s a d b rep s' rep' r → Begins code s a d b rep s' rep' r
+starts_begins code s a d b rep s' rep' r S =
     record { next = λ setting known t u rank lo mid hi two. S.next setting t u rank lo mid hi two }

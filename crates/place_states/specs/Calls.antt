@@ -8,7 +8,7 @@ use Rattle.definitions.specs.Place.{Result, refused, done, place, merge_mem}
 use Rattle.definitions.specs.Sound.{Storable}
 use Rattle.record_links.specs.Standing.{Stands}
 use Rattle.record_links.specs.Frames.{Kept}
-use Rattle.layout.specs.declared.table.Table.{Table}
+use Rattle.layout.specs.declared.setting.Setting.{Setting as CodeSetting}
 use Rattle.layout.specs.Located.{Known}
 use Rattle.report.specs.Emitted.{Emitted, SameBuffer}
 use Rattle.report.specs.declared.Report.{Report}
@@ -45,9 +45,9 @@ pub record Beside (s : List ℕ) (a b : ℕ) : Type 0 where
   pub linkable : Linkable s
 
 -- what a call may assume: some setting is known, and some two usages stand there, with types of its table
-pub record Ready (table : Table) (s : List ℕ) (a b : ℕ) : Type 0 where
+pub record Ready (code : CodeSetting) (s : List ℕ) (a b : ℕ) : Type 0 where
   pub setting : Setting
-  pub known : Known table setting
+  pub known : Known code setting
   pub t : Usage
   pub u : Usage
   pub r : ℕ → ℕ
@@ -99,6 +99,6 @@ abbrev pub ground : List ℕ → (ℕ → ℕ) → ℕ → ℕ → Report → Gr
 ground s r lo hi rep = record { bytes = s; rank = r; lo = lo; hi = hi; report = rep }
 
 -- the contract of `merge_mem_at` and `merge_mem`
-pub record Placed (y : Setting → Usage → Usage → Result Usage) (table : Table) (s : List ℕ) (a b : ℕ) (s' : List ℕ) (r : Returned Merged SizeRefusal) (rep rep' : Report) : Type 0 where
-  pub done : (st : Setting) → Known table st → (t u : Usage) (r₀ : ℕ → ℕ) (lo mid hi : ℕ) → Two (length st.table) s a b r₀ lo mid hi t u
+pub record Placed (y : Setting → Usage → Usage → Result Usage) (code : CodeSetting) (s : List ℕ) (a b : ℕ) (s' : List ℕ) (r : Returned Merged SizeRefusal) (rep rep' : Report) : Type 0 where
+  pub done : (st : Setting) → Known code st → (t u : Usage) (r₀ : ℕ → ℕ) (lo mid hi : ℕ) → Two (length st.table) s a b r₀ lo mid hi t u
       → Done (y st t u) (ground s r₀ lo hi rep) s' r rep'

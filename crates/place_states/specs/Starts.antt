@@ -4,7 +4,7 @@ use Rattle.std.specs.Prelude.{◌≡◌, ℕ, ◌+◌, List, [], length, ◌≢�
 use Rattle.definitions.specs.Usage.{Usage, nodes}
 use Rattle.definitions.specs.Table.{Setting}
 use Rattle.definitions.specs.Place.{Result, refused, after, place_by_kind, place}
-use Rattle.layout.specs.declared.table.Table.{Table}
+use Rattle.layout.specs.declared.setting.Setting.{Setting as CodeSetting}
 use Rattle.layout.specs.Located.{Known}
 use Rattle.report.specs.Emitted.{SameBuffer}
 use Rattle.report.specs.declared.Report.{Report}
@@ -25,18 +25,18 @@ Opens setting goal g n s rep a (Err e) = (goal ≡ refused (number_of e)) × Sam
 Opens setting goal g n s rep a (Ok st) = Next setting goal g n s rep a st
 
 -- `place_by_kind`, with this placing's own pairing
-pub record Begins (table : Table) (s : List ℕ) (a d b : ℕ) (rep : Report) (s' : List ℕ) (rep' : Report) (r : Returned State SizeRefusal) : Type 0 where
-  pub next : (setting : Setting) → Known table setting → (t u : Usage) (rank : ℕ → ℕ) (lo mid hi : ℕ) → Two (length setting.table) s a b rank lo mid hi t u
+pub record Begins (code : CodeSetting) (s : List ℕ) (a d b : ℕ) (rep : Report) (s' : List ℕ) (rep' : Report) (r : Returned State SizeRefusal) : Type 0 where
+  pub next : (setting : Setting) → Known code setting → (t u : Usage) (rank : ℕ → ℕ) (lo mid hi : ℕ) → Two (length setting.table) s a b rank lo mid hi t u
       → Short rep.at (after [] 1 (place_by_kind setting (place setting) t d u))
       → Opens setting (after [] 1 (place_by_kind setting (place setting) t d u)) (ground s rank lo hi rep) (nodes t + nodes u) s' rep' a r
 
--- the same, whatever the table
+-- the same, whatever the setting
 pub record Starts (s : List ℕ) (a d b : ℕ) (rep : Report) (s' : List ℕ) (rep' : Report) (r : Returned State SizeRefusal) : Type 0 where
   pub next : (setting : Setting) (t u : Usage) (rank : ℕ → ℕ) (lo mid hi : ℕ) → Two (length setting.table) s a b rank lo mid hi t u
       → Short rep.at (after [] 1 (place_by_kind setting (place setting) t d u))
       → Opens setting (after [] 1 (place_by_kind setting (place setting) t d u)) (ground s rank lo hi rep) (nodes t + nodes u) s' rep' a r
 
 -- the whole placing, its sizes tested first
-pub record Began (table : Table) (s : List ℕ) (a d b : ℕ) (rep : Report) (s' : List ℕ) (rep' : Report) (r : Returned State SizeRefusal) : Type 0 where
-  pub next : (setting : Setting) → Known table setting → (t u : Usage) (rank : ℕ → ℕ) (lo mid hi : ℕ) → Two (length setting.table) s a b rank lo mid hi t u
+pub record Began (code : CodeSetting) (s : List ℕ) (a d b : ℕ) (rep : Report) (s' : List ℕ) (rep' : Report) (r : Returned State SizeRefusal) : Type 0 where
+  pub next : (setting : Setting) → Known code setting → (t u : Usage) (rank : ℕ → ℕ) (lo mid hi : ℕ) → Two (length setting.table) s a b rank lo mid hi t u
       → Opens setting (place setting t d u) (ground s rank lo hi rep) (nodes t + nodes u) s' rep' a r

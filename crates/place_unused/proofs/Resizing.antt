@@ -5,7 +5,7 @@ use Rattle.std.specs.Prelude.{Ok}
 use Rattle.definitions.specs.Usage.{Usage, nodes}
 use Rattle.definitions.specs.Table.{Setting}
 use Rattle.definitions.specs.Place.{done, with_size, after, place_by_kind, place}
-use Rattle.layout.specs.declared.table.Table.{Table}
+use Rattle.layout.specs.declared.setting.Setting.{Setting as CodeSetting}
 use Rattle.qptr.specs.Values.{size_of}
 use Rattle.qptr.specs.declared.MaxSize.{MaxSize}
 use Rattle.records.specs.Records.{command_in, size_in, cell, with_size as sized, Set}
@@ -51,6 +51,6 @@ resized s s₁ a b z st is-first ez len S e = rw e (record {
         }))
 
 -- for a caller, who knows the offset, the report and the table
-pub resized_begins : (table : Table) (s s' : List ℕ) (rep : Report) (a d b : ℕ) (st : State) → Plain (command_in s b) d → Resized s a b s' st
-    → Begins table s a d b rep s' rep (Ok st)
-resized_begins table s s' rep a d b st plain R = starts_begins table s a d b rep s' rep (Ok st) (R.starts d rep plain)
+pub resized_begins : (code : CodeSetting) (s s' : List ℕ) (rep : Report) (a d b : ℕ) (st : State) → Plain (command_in s b) d → Resized s a b s' st
+    → Begins code s a d b rep s' rep (Ok st)
+resized_begins code s s' rep a d b st plain R = starts_begins code s a d b rep s' rep (Ok st) (R.starts d rep plain)

@@ -5,28 +5,33 @@ use Prim.Native.Nat.{ℕ, zero, suc, ◌≤◌}
 use mathlib.Core.Path.{◌≡◌, refl, sym, ap, ◌∙◌}
 use mathlib.Core.Bool.{Bool, true, false}
 use native.Mathlib.Omega.{arith}
-use lib.Dec.{ltb}
+use lib.Dec.{ltb, leb}
 use Rattle.definitions.specs.If.{when◌then◌else◌}
 use Rattle.definitions.specs.Usage.{Size, Usage, UNUSED, unused, leaf, map, array, size, Entries, none, entry, count}
 use Rattle.definitions.specs.Command.{Head, head_of, command_at, strictness}
 use Rattle.definitions.specs.Place.{◌<ˢ◌}
 use Rattle.qptr.specs.declared.Node.{Node}
+use Rattle.qptr.specs.declared.choices.Choices.{Choices}
+use Rattle.qptr.specs.declared.choices.Ties.TheVariants.{First, Second}
+use Rattle.qptr.specs.Choices.{choices_in}
 use Rattle.qptr.specs.declared.TheConstants.Node as Constants
-use Rattle.std.specs.Ordering.{partial_lt}
+use Rattle.std.specs.Ordering.{partial_lt, partial_le}
+use Rattle.qptr.specs.declared.MaxSize.{MaxSize}
 use Rattle.qptr.specs.declared.Strictness.{Strictness}
 use Rattle.qptr.specs.contracts.MaxSizePartialOrd.TheImpl.{partial_cmp-value as size_cmp}
 use Rattle.qptr.specs.contracts.StrictnessPartialOrd.TheImpl.{partial_cmp-value as strictness_cmp}
-use Rattle.qptr.proofs.Orders.{less_size, less_strict}
+use Rattle.qptr.proofs.Orders.{less_size, less_strict, upto_strict}
 use Rattle.qptr.proofs.Usages.{head_size}
 use Rattle.qptr.specs.declared.Kind.{Kind}
 use Rattle.qptr.specs.declared.Kind.TheVariants.{Unused, StrictlyTyped, DirectAccess, OffsetBase, DynOffsetBase}
 use Rattle.qptr.specs.Values.{size_of, strictness_of, command_of, kind_of, part_by, OwnPart, Receives}
 
 -- `first_receives`, of nodes
-abbrev pub node_receives : Node → Node → Bool
-node_receives a b =
+abbrev pub node_receives : Choices → Node → Node → Bool
+node_receives ch a b =
     when size_of b.size <ˢ size_of a.size then true
     else when size_of a.size <ˢ size_of b.size then false
+    else when (choices_in ch).ties_to_first then leb (command_at (command_of b.kind)).strictness (command_at (command_of a.kind)).strictness
     else ltb (command_at (command_of b.kind)).strictness (command_at (command_of a.kind)).strictness
 
 module _ (n : Node) (u : Usage) (stands : OwnPart n u) where
@@ -36,36 +41,37 @@ module _ (n : Node) (u : Usage) (stands : OwnPart n u) where
   same_strictness : (command_at (command_of n.kind)).strictness ≡ strictness u
   same_strictness = ap (λ (h : Head). (command_at h.command).strictness) stands
 
-pub receives : {a b : Node} {r : Bool} → r ≡ node_receives a b → Receives a b r
-receives {a} {b} e = record {
+pub receives : {ch : Choices} {a b : Node} {r : Bool} → r ≡ node_receives ch a b → Receives ch a b r
+receives {ch} {a} {b} e = record {
   of = λ u v p q. rw (← same_size a u p, ← same_size b v q, ← same_strictness a u p, ← same_strictness b v q) e;
 }
 
--- the code's tests, in its order; larger is whether b is the larger, smaller whether a is
+-- the code's tests, in its order
 
-pub first_larger : (a b : Node) (larger : Bool) → larger ≡ partial_lt size_cmp.it b.size a.size → larger ≡ true → Receives a b true
-unfolding when◌then◌else◌
-first_larger a b larger e is =
-    let test = sym (less_size b.size a.size) ∙ sym e ∙ is in
-    receives (rw test refl)
+size_test : (m n : MaxSize) {t v : Bool} → t ≡ partial_lt size_cmp.it m n → t ≡ v → (size_of m <ˢ size_of n) ≡ v
+size_test m n e is = sym (less_size m n) ∙ sym e ∙ is
 
-pub second_larger : (a b : Node) (larger smaller : Bool) → larger ≡ partial_lt size_cmp.it b.size a.size → larger ≡ false
-    → smaller ≡ partial_lt size_cmp.it a.size b.size → smaller ≡ true → Receives a b false
-unfolding when◌then◌else◌
-second_larger a b larger smaller e not f is =
-    let test = sym (less_size b.size a.size) ∙ sym e ∙ not in
-    let test' = sym (less_size a.size b.size) ∙ sym f ∙ is in
-    receives (rw (test, test') refl)
+module _ (ch : Choices) (a b : Node) {larger : Bool} (e : larger ≡ partial_lt size_cmp.it b.size a.size) where
+  pub first_larger : larger ≡ true → Receives ch a b true
+  unfolding when◌then◌else◌
+  first_larger is = receives (rw (size_test b.size a.size e is) refl)
 
-pub by_strictness : (a b : Node) (larger smaller : Bool) (s t : Strictness) (stricter : Bool) → larger ≡ partial_lt size_cmp.it b.size a.size → larger ≡ false
-    → smaller ≡ partial_lt size_cmp.it a.size b.size → smaller ≡ false
-    → strictness_of s ≡ (command_at (command_of b.kind)).strictness → strictness_of t ≡ (command_at (command_of a.kind)).strictness
-    → stricter ≡ partial_lt strictness_cmp.it s t → Receives a b stricter
-unfolding when◌then◌else◌
-by_strictness a b larger smaller s t stricter e not f nor es et g =
-    let test = sym (less_size b.size a.size) ∙ sym e ∙ not in
-    let test' = sym (less_size a.size b.size) ∙ sym f ∙ nor in
-    receives (rw (test, test', ← es, ← et) (g ∙ less_strict s t))
+  module _ (not : larger ≡ false) {smaller : Bool} (f : smaller ≡ partial_lt size_cmp.it a.size b.size) where
+    pub second_larger : smaller ≡ true → Receives ch a b false
+    unfolding when◌then◌else◌
+    second_larger is = receives (rw (size_test b.size a.size e not, size_test a.size b.size f is) refl)
+
+    module _ (nor : smaller ≡ false) (s t : Strictness) {r : Bool}
+        (es : strictness_of s ≡ (command_at (command_of b.kind)).strictness) (et : strictness_of t ≡ (command_at (command_of a.kind)).strictness) where
+      pub tie_to_first : ch.ties ≡ First → r ≡ partial_le strictness_cmp.it s t → Receives ch a b r
+      unfolding when◌then◌else◌ choices_in
+      tie_to_first chosen g =
+          receives (rw (size_test b.size a.size e not, size_test a.size b.size f nor, chosen, ← es, ← et) (g ∙ upto_strict s t))
+
+      pub tie_to_second : ch.ties ≡ Second → r ≡ partial_lt strictness_cmp.it s t → Receives ch a b r
+      unfolding when◌then◌else◌ choices_in
+      tie_to_second chosen g =
+          receives (rw (size_test b.size a.size e not, size_test a.size b.size f nor, chosen, ← es, ← et) (g ∙ less_strict s t))
 
 pub entries_of_lem : (n : ℕ) → (es : Entries) × (count es ≡ n)
 entries_of_lem zero = (none, refl)

@@ -50,3 +50,14 @@ less_strict Array Exact = refl
 less_strict Exact Any = refl
 less_strict Exact Array = refl
 less_strict Exact Exact = refl
+
+pub upto_strict : (m n : Strictness) → partial_le strictness_cmp.it m n ≡ leb (strictness_of m) (strictness_of n)
+upto_strict Any Any = refl
+upto_strict Any Array = refl
+upto_strict Any Exact = refl
+upto_strict Array Any = refl
+upto_strict Array Array = refl
+upto_strict Array Exact = refl
+upto_strict Exact Any = refl
+upto_strict Exact Array = refl
+upto_strict Exact Exact = refl

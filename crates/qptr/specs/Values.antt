@@ -4,6 +4,8 @@ use Rattle.std.specs.Prelude.{ℕ, zero, suc, Bool, ◌≡◌, ◌<◌, Result, 
 use Rattle.definitions.specs.Usage.{Size, fixed, dynamic, Usage, unused}
 use Rattle.definitions.specs.Command.{Command as Row, Head, head_of}
 use Rattle.definitions.specs.Place.{first_receives}
+use Rattle.qptr.specs.Choices.{choices_in}
+use Rattle.qptr.specs.declared.choices.Choices.{Choices}
 use Rattle.qptr.specs.declared.MaxSize.{MaxSize}
 use Rattle.qptr.specs.declared.MaxSize.TheVariants.{Fixed, Dynamic}
 use Rattle.qptr.specs.declared.Kind.{Kind}
@@ -62,6 +64,6 @@ part_by DynOffsetBase z n = record { command = 0x04; size = z; argument = n }
 abbrev pub OwnPart : Node → Usage → Type 0
 OwnPart n u = part_of n ≡ head_of u
 
--- r says whether the first receives, of any two usages whose own parts are a and b
-pub record Receives (a b : Node) (r : Bool) : Type 0 where
-  pub of : (u v : Usage) → OwnPart a u → OwnPart b v → r ≡ first_receives u v
+-- r says whether the first receives, with these choices, of any two usages whose own parts are a and b
+pub record Receives (ch : Choices) (a b : Node) (r : Bool) : Type 0 where
+  pub of : (u v : Usage) → OwnPart a u → OwnPart b v → r ≡ first_receives (choices_in ch) u v

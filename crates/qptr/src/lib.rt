@@ -1,10 +1,14 @@
-// Sizes, commands and memory nodes: the values of the source's `qptr/mod.rs` and `qptr/shapes.rs`.
+// Sizes, commands and memory nodes: the values of the source's `qptr/mod.rs` and `qptr/shapes.rs`; and the choices that a call is made with.
 #![tactic(auto)]
 
 ghost use Rattle.std.specs.Prelude.{◌≡◌, ◌<◌, true, false, Result};
 ghost use Rattle.definitions.specs.Usage.{Usage, unused, leaf, map, array, Entries, count};
 ghost use Rattle.definitions.specs.Command.{command_at};
 ghost use Rattle.qptr.specs.Values.{size_of, row_of, strictness_of, command_of, kind_of, part_of, part_by, NamesKind, OwnPart, Receives};
+
+mod choices;
+
+pub use choices::{Choices, Ties};
 
 // The source's `max_size`: `Some` is Fixed, `None` is Dynamic. In Rust's order Dynamic is the largest.
 #[derive(Clone, Copy, PartialEq, Eq, PartialOrd, Ord)]
@@ -249,9 +253,10 @@ impl Node {
     }
 }
 
-// Does a receive b? The larger receives; at equal sizes the stricter; on a full tie the second. Strictness is looked up only at equal sizes.
-pub fn first_receives(a: Node, b: Node) -> bool
-    ensures { Receives a b result }
+// Does a receive b? The larger receives; at equal sizes the stricter; on a full tie the one that is chosen. Strictness is looked up only at
+// equal sizes.
+pub fn first_receives(choices: Choices, a: Node, b: Node) -> bool
+    ensures { Receives choices a b result }
 {
     if b.size < a.size {
         return true;
@@ -259,5 +264,8 @@ pub fn first_receives(a: Node, b: Node) -> bool
     if a.size < b.size {
         return false;
     }
-    b.strictness() < a.strictness()
+    match choices.ties {
+        Ties::First => b.strictness() <= a.strictness(),
+        Ties::Second => b.strictness() < a.strictness(),
+    }
 }

@@ -3,10 +3,15 @@
 use Rattle.std.specs.Prelude.{ℕ, ◌+◌, ◌≤◌, ◌≡◌, List, [], eqb, get_or, take, drop, replicate, Option as Maybe, None, Some}
 use Rattle.definitions.specs.If.{when◌then◌else◌}
 use Rattle.definitions.specs.Calls.{Answer, Written, receiver_call, supports_call, place_call, merge_call, fold_call, sound_call}
+use Rattle.definitions.specs.Requests.Choices.{Choices, choices_of}
 use Rattle.numbers.specs.Words.{word}
 use Rattle.call_answers.specs.Answers.{bit}
 use Rattle.replay_record.specs.Parts.{Recorded, Recording, Begins}
 use Rattle.replay_record.specs.declared.Counts.{Counts}
+
+-- the choices
+abbrev pub chosen : Recorded → Choices
+chosen r = choices_of (word r.head 13)
 
 -- the output before the call: its length, and the byte that fills it
 abbrev pub output_in : Recorded → List ℕ
@@ -42,17 +47,17 @@ pub data Handed (first second : List ℕ) : ℕ → List ℕ → Type 0 where
 -- of the calls that write, which are 2 place, 3 merge and else fold, with an output and a report buffer of n bytes
 unfoldable pub called : ℕ → Recorded → List ℕ → ℕ → Written
 called call r output n =
-    when eqb call 2 then place_call r.parts.table (word r.head 1) r.parts.first (word r.head 9) r.parts.second output n
-    else when eqb call 3 then merge_call r.parts.table (word r.head 1) r.parts.first r.parts.second output n
-    else fold_call r.parts.table (word r.head 1) r.parts.first output n
+    when eqb call 2 then place_call (chosen r) r.parts.table (word r.head 1) r.parts.first (word r.head 9) r.parts.second output n
+    else when eqb call 3 then merge_call (chosen r) r.parts.table (word r.head 1) r.parts.first r.parts.second output n
+    else fold_call (chosen r) r.parts.table (word r.head 1) r.parts.first output n
 
 abbrev pub Writes : Recorded → ℕ → Type 0
 Writes r call = Wrote r (called call r (output_in r) (word r.tail 5))
 
 -- the record states what the call with this number gives
 pub data Agrees (r : Recorded) : ℕ → Type 0 where
-  receiver : Handed r.parts.first r.parts.second (word r.tail 10) (receiver_call r.parts.first r.parts.second) → Agrees r 0
-  supports : Says r.tail 10 (supports_call r.parts.table (word r.head 1) (word r.head 5) (word r.head 9) r.parts.first) → Agrees r 1
+  receiver : Handed r.parts.first r.parts.second (word r.tail 10) (receiver_call (chosen r) r.parts.first r.parts.second) → Agrees r 0
+  supports : Says r.tail 10 (supports_call (chosen r) r.parts.table (word r.head 1) (word r.head 5) (word r.head 9) r.parts.first) → Agrees r 1
   writing : (call : ℕ) → 2 ≤ call → call ≤ 4 → Writes r call → Agrees r call
   sound : Says r.tail 10 (sound_call r.parts.table (word r.head 1) r.parts.first) → Agrees r 5
 

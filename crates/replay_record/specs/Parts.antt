@@ -26,8 +26,8 @@ number_of Sound = 5
 abbrev pub NamesCall : ℕ → Maybe Call → Type 0
 NamesCall n r = MatchOption r (5 < n) (λ call. number_of call ≡ n)
 
--- In front of a record's parts stand the call, the length of the work area, the type and the offset. Behind them stand the buffers, the
--- answer, and what was written.
+-- In front of a record's parts stand the call, the length of the work area, the type, the offset and the choices. Behind them stand the
+-- buffers, the answer, and what was written.
 pub record Recorded : Type 0 where
   pub head : List ℕ
   pub parts : Blocks
@@ -35,12 +35,12 @@ pub record Recorded : Type 0 where
 
 -- s is this record
 pub record Recording (s : List ℕ) (r : Recorded) : Type 0 where
-  pub head : r.head ≡ take 13 s
-  pub parts : read_blocks (drop 13 s) ≡ read r.parts r.tail
+  pub head : r.head ≡ take 17 s
+  pub parts : read_blocks (drop 17 s) ≡ read r.parts r.tail
 
 -- what stands in front of the parts and behind them is whole: the buffers hold what was written, and the record ends with it
 pub record Fits (head tail : List ℕ) : Type 0 where
-  pub front : length head ≡ 13
+  pub front : length head ≡ 17
   pub behind : 30 ≤ length tail
   pub work : word head 1 ≤ 49160
   pub output : word tail 0 ≤ 16384

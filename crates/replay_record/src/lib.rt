@@ -4,29 +4,33 @@
 
 ghost use Rattle.std.specs.Prelude.{◌≡◌, ◌+◌, ◌≤◌, true, length, replicate, IfSome};
 ghost use Rattle.numbers.specs.Words.{word};
+ghost use Rattle.qptr.specs.Choices.{choices_in};
 ghost use Rattle.call_answers.specs.Answers.{answer_of};
 ghost use Rattle.call_answers.specs.Writing.{Gives};
 ghost use Rattle.replay_record.specs.Parts.{number_of, writing_number, NamesCall, Recording, Fits, Single, Begins};
-ghost use Rattle.replay_record.specs.Agrees.{Says, Holds, called, Writes, Agrees, Agreed};
+ghost use Rattle.replay_record.specs.Agrees.{Says, Holds, chosen, called, Writes, Agrees, Agreed};
 
 use call_answers::{Answer, Refusal, Written};
 use merge_line::{Parts, three_blocks, zeros};
 use numbers::get32;
+use qptr::Choices;
 
 // The longest work area and the longest buffer of a record.
 const LONGEST_WORK: usize = 49160;
 
 const LONGEST_BUFFER: usize = 16384;
 
-// A record begins with the call, a byte, the length of the work area, the type and the offset that are asked. Then come its three
-// parts, each with its length in front.
+// A record begins with the call, a byte, the length of the work area, the type and the offset that are asked, and the choices. Then come
+// its three parts, each with its length in front.
 const WORK_AT: usize = 1;
 
 const TYPE_AT: usize = 5;
 
 const OFFSET_AT: usize = 9;
 
-const PARTS_AT: usize = 13;
+const CHOICES_AT: usize = 13;
+
+const PARTS_AT: usize = 17;
 
 // Behind them come the output's length and fill byte, the report's, and the five numbers of the answer, with the lengths of usage and
 // report among them. The usage's bytes and the report's are all that follows.
@@ -102,7 +106,7 @@ pub struct Counts {
 
 // Are the work area and the buffers not too long, do the buffers hold what was written, and is that all that is left?
 fn sized(head: &[u8], tail: &[u8]) -> bool
-    requires { (length head.now ≡ 13) × (30 ≤ length tail.now) }
+    requires { (length head.now ≡ 17) × (30 ≤ length tail.now) }
     ensures { result ≡ true → Fits head.now tail.now }
 {
     let output = length_at(tail, 0);
@@ -131,6 +135,12 @@ impl Record<'_> {
         Some(Record { head, parts, tail })
     }
 
+    fn choices(&self) -> Choices
+        ensures { choices_in result ≡ chosen (lists self.now) }
+    {
+        Choices::of(get32(self.head, CHOICES_AT))
+    }
+
     // Are the recorded numbers these? A recorded yes may be neither 0 nor 1, so they are no `Answer`.
     fn answered(&self, a: Answer) -> bool
         ensures { result ≡ true → Says self.now.tail.now 10 (answer_of a) }
@@ -146,7 +156,7 @@ impl Record<'_> {
     fn receiver(&self) -> bool
         ensures { result ≡ true → Agrees (lists self.now) 0 }
     {
-        let got = calls::receiver(self.parts.first, self.parts.second);
+        let got = calls::receiver(self.choices(), self.parts.first, self.parts.second);
         match get32(self.tail, ANSWER_AT) {
             0 => got.is_empty(),
             1 => got == self.parts.first,
@@ -161,7 +171,8 @@ impl Record<'_> {
     {
         let ty = get32(self.head, TYPE_AT);
         let offset = get32(self.head, OFFSET_AT);
-        let got = calls::supports(self.parts.table, work, ty, offset, self.parts.first);
+        let Parts { table, first, .. } = self.parts;
+        let got = calls::supports(self.choices(), table, work, ty, offset, first);
         self.answered(Answer::from(got))
     }
 
@@ -188,13 +199,14 @@ impl Record<'_> {
             first,
             second,
         } = self.parts;
+        let choices = self.choices();
         match writing {
             Writing::Place => {
                 let offset = get32(self.head, OFFSET_AT);
-                calls::place(table, work, first, offset, second, output, rep)
+                calls::place(choices, table, work, first, offset, second, output, rep)
             }
-            Writing::Merge => calls::merge(table, work, first, second, output, rep),
-            Writing::Fold => calls::fold(table, work, first, output, rep),
+            Writing::Merge => calls::merge(choices, table, work, first, second, output, rep),
+            Writing::Fold => calls::fold(choices, table, work, first, output, rep),
         }
     }
 

@@ -11,7 +11,7 @@ use Rattle.layout.specs.Located.{LayoutIs}
 use Rattle.layout.specs.declared.table.Components.{Components}
 use Rattle.layout.specs.declared.table.TypeLayout.{TypeLayout}
 use Rattle.layout.specs.declared.table.TypeLayout.TheVariants.{Concrete}
-use Rattle.layout.specs.declared.table.Table.{Table}
+use Rattle.layout.specs.declared.setting.Setting.{Setting as CodeSetting}
 use Rattle.support.specs.Supported.{Supports, kept_by, Asked}
 use Rattle.support.proofs.Types.{layout_is}
 
@@ -20,6 +20,6 @@ unfolding when◌then◌else◌
 kept_either true ty otherwise = refl
 kept_either false ty otherwise = refl
 
-module _ {table : Table} {ty at : ℕ} {s : List ℕ} {q : ℕ} {r : TypeLayout} (l : LayoutIs table ty r) where
-  pub ok_answers : {n d : ℕ} {cs : Components} {v : Bool} → r ≡ Concrete n d cs → Supports table ty at s q v → Asked table ty at s q (Ok v)
+module _ {code : CodeSetting} {ty at : ℕ} {s : List ℕ} {q : ℕ} {r : TypeLayout} (l : LayoutIs code.table ty r) where
+  pub ok_answers : {n d : ℕ} {cs : Components} {v : Bool} → r ≡ Concrete n d cs → Supports code ty at s q v → Asked code ty at s q (Ok v)
   ok_answers {v = v} y g = record { is = λ st k b u r lo hi a otherwise. rw (asked, layout_is l y st k b, ← g.is st k b u r lo hi a) (kept_either v ty otherwise) }

@@ -19,73 +19,73 @@ use Rattle.support.specs.Askable.{TypeKnown}
 use Rattle.support.specs.Supported.{Supports}
 use Rattle.support.specs.Cache.{Recalls, Listed, CacheTrue, Kept}
 use Rattle.support.proofs.Staying.{supports_after}
-use Rattle.layout.specs.declared.table.Table.{Table}
+use Rattle.layout.specs.declared.setting.Setting.{Setting as CodeSetting}
 
 -- a table has few types
-pub type_few : {table : Table} {ty : ℕ} → TypeKnown table ty → ty < 1024
-type_few {table} w = omega (arith, w.below, (accepted table.bytes.now w.setting.table w.known.read).few)
+pub type_few : {code : CodeSetting} {ty : ℕ} → TypeKnown code ty → ty < 1024
+type_few {code} w = omega (arith, w.below, (accepted code.table.bytes.now w.setting.table w.known.read).few)
 
 -- what the turns of a loop have left
-pub record Turned (table : Table) (s s' : List ℕ) (d d' : List CachedAnswer) : Type 0 where
-  pub kept : Kept table s s' d d'
+pub record Turned (code : CodeSetting) (s s' : List ℕ) (d d' : List CachedAnswer) : Type 0 where
+  pub kept : Kept code s s' d d'
   pub wide : length d' ≡ length d
 
-module _ {table : Table} where
-  pub kept_none : {s : List ℕ} {d : List CachedAnswer} → Kept table s s d d
+module _ {code : CodeSetting} where
+  pub kept_none : {s : List ℕ} {d : List CachedAnswer} → Kept code s s d d
   kept_none = record { records = unchanged_none; nodes = λ i h. h; list = λ h. h }
 
-  pub kept_both : {s s₁ s₂ : List ℕ} {d d₁ d₂ : List CachedAnswer} → Kept table s s₁ d d₁ → Kept table s₁ s₂ d₁ d₂ → Kept table s s₂ d d₂
+  pub kept_both : {s s₁ s₂ : List ℕ} {d d₁ d₂ : List CachedAnswer} → Kept code s s₁ d d₁ → Kept code s₁ s₂ d₁ d₂ → Kept code s s₂ d d₂
   kept_both A B = record {
     records = unchanged_both A.records B.records;
     nodes = λ i h. B.nodes i (A.nodes i h);
     list = λ h. B.list (A.list h);
   }
 
-  pub memory_after : {s s' : List ℕ} {d d' : List CachedAnswer} {q : ℕ} → Kept table s s' d d' → CacheTrue table s q d → CacheTrue table s' q d'
+  pub memory_after : {s s' : List ℕ} {d d' : List CachedAnswer} {q : ℕ} → Kept code s s' d d' → CacheTrue code s q d → CacheTrue code s' q d'
   memory_after K M = record {
     nodes = λ i h. K.nodes i (M.nodes i (below_back K.records h));
     list = K.list M.list;
   }
 
-  pub turned_none : {s : List ℕ} {d : List CachedAnswer} → Turned table s s d d
+  pub turned_none : {s : List ℕ} {d : List CachedAnswer} → Turned code s s d d
   turned_none = record { kept = kept_none; wide = refl }
 
-  pub turned_more : {s s₁ s₂ : List ℕ} {d d₁ d₂ : List CachedAnswer} → Turned table s s₁ d d₁ → Kept table s₁ s₂ d₁ d₂ → length d₂ ≡ length d₁ → Turned table s s₂ d d₂
+  pub turned_more : {s s₁ s₂ : List ℕ} {d d₁ d₂ : List CachedAnswer} → Turned code s s₁ d d₁ → Kept code s₁ s₂ d₁ d₂ → length d₂ ≡ length d₁ → Turned code s s₂ d d₂
   turned_more T K w = record { kept = kept_both T.kept K; wide = w ∙ T.wide }
 
   -- of an element or an entry
-  pub memory_part : {s : List ℕ} {d : List CachedAnswer} {q e : ℕ} → Child s q e → CacheTrue table s q d → CacheTrue table s e d
+  pub memory_part : {s : List ℕ} {d : List CachedAnswer} {q e : ℕ} → Child s q e → CacheTrue code s q d → CacheTrue code s e d
   memory_part {q = q} {e = e} c M = record { nodes = λ i h. M.nodes i (Below.inside q e i c h); list = M.list }
 
   -- what is recalled
 
-  module _ {s : List ℕ} {q : ℕ} {d : List CachedAnswer} {ty at : ℕ} {b : Bool} (M : CacheTrue table s q d) where
-    marked_answer : Marks ty at s q b → Supports table ty at s q b
+  module _ {s : List ℕ} {q : ℕ} {d : List CachedAnswer} {ty at : ℕ} {b : Bool} (M : CacheTrue code s q d) where
+    marked_answer : Marks ty at s q b → Supports code ty at s q b
     marked_answer m = rw m.past at ((M.nodes q (Below.root q)).is ty b m.tag)
 
-    pub recalled : ty < 1024 → Recollects ty at s q d b → Supports table ty at s q b
+    pub recalled : ty < 1024 → Recollects ty at s q d b → Supports code ty at s q b
     recalled l = ⊎_elim marked_answer (M.list.is ty at q b l)
 
   -- what is remembered anew
 
-  module _ {ty at : ℕ} {s s' : List ℕ} {q : ℕ} {d d' : List CachedAnswer} {b : Bool} (R : Remembers ty at s s' q d d' b) (long : length s' ≡ length s) (g : Supports table ty at s q b) where
+  module _ {ty at : ℕ} {s s' : List ℕ} {q : ℕ} {d d' : List CachedAnswer} {b : Bool} (R : Remembers ty at s s' q d d' b) (long : length s' ≡ length s) (g : Supports code ty at s q b) where
     W : Marked s s' q (tag_of ty b) at
     W = R.node
 
     U : Unchanged s s'
     U = unchanged_marked W long
 
-    own_node : Recalls table s' q
+    own_node : Recalls code s' q
     own_node = record {
       is = λ t c e.
           let x = one_tag t ty c b (sym W.tag ∙ e) in
           rw (W.past, x.0, x.1) (supports_after U g);
     }
 
-    other_node : (i : ℕ) → (i ≡ q → ⊥) → Recalls table s i → Recalls table s' i
+    other_node : (i : ℕ) → (i ≡ q → ⊥) → Recalls code s i → Recalls code s' i
     other_node i ne h = record { is = λ t c e. rw (W.pasts i ne) (supports_after U (h.is t c (sym (W.tags i ne) ∙ e))) }
 
-    listed_anew : Listed table s d → Listed table s' d'
+    listed_anew : Listed code s d → Listed code s' d'
     listed_anew h = record {
       is = λ t o i c l e. ⊎_elim
           (λ old. supports_after U (h.is t o i c l old))
@@ -93,7 +93,7 @@ module _ {table : Table} where
           (R.list.each t o i c l e);
     }
 
-    pub remembered_kept : Kept table s s' d d'
+    pub remembered_kept : Kept code s s' d d'
     remembered_kept = record {
       records = U;
       nodes = λ i h. elim (ℕ_discrete i q) [ yes e ↦ rw e own_node | no ne ↦ other_node i ne h ];

@@ -24,7 +24,7 @@ use Rattle.qptr.specs.contracts.Kind.{the_type}
 use denote.Enum.Bare.{sameb, same_true, same_false}
 use Rattle.std.proofs.Common.{rules}
 use Rattle.support.specs.Askable.{Askable}
-use Rattle.layout.specs.declared.table.Table.{Table}
+use Rattle.layout.specs.declared.setting.Setting.{Setting as CodeSetting}
 use Rattle.std.proofs.lemmas.Bool.{both_ways}
 use Rattle.support.specs.Supported.{WholeLeaf, Supports, ComponentSupports, ItselfSupports}
 use Rattle.support.specs.Cache.{LeftOpen}
@@ -49,24 +49,24 @@ other_layout b (Concrete n d cs) h = absurd (h n d cs refl)
 other_layout b Handle h = refl
 other_layout b Failed h = refl
 
-module _ {table : Table} {ty at : ℕ} {s : List ℕ} {q : ℕ} {r : TypeLayout} (l : LayoutIs table ty r) where
-  pub not_concrete : ((n d : ℕ) (cs : Components) → r ≡ Concrete n d cs → ⊥) → Supports table ty at s q false
+module _ {code : CodeSetting} {ty at : ℕ} {s : List ℕ} {q : ℕ} {r : TypeLayout} (l : LayoutIs code.table ty r) where
+  pub not_concrete : ((n d : ℕ) (cs : Components) → r ≡ Concrete n d cs → ⊥) → Supports code ty at s q false
   not_concrete h = record {
     is = λ st k b u _ lo hi a.
-        rw (one_step st k ty at u, layout_is l refl st k b) (no_rules st (supports st) ty (layout_in table.bytes.now r) at u (other_layout table.bytes.now r h));
+        rw (one_step st k ty at u, layout_is l refl st k b) (no_rules st (supports st) ty (layout_in code.table.bytes.now r) at u (other_layout code.table.bytes.now r h));
   }
 
   module _ {n d : ℕ} {cs : Components} (y : r ≡ Concrete n d cs) where
     by_rules : {v : Bool} →
-        ((st : Setting) → Known table st → ty < length st.table → layout_of st.table ty ≡ concrete n d (parts_of table.bytes.now cs) →
-        (u : Usage) (r : ℕ → ℕ) (lo hi : ℕ) → Stands u s q r lo hi → v ≡ support_rules st (supports st) ty (concrete n d (parts_of table.bytes.now cs)) at u) →
-        Supports table ty at s q v
+        ((st : Setting) → Known code st → ty < length st.table → layout_of st.table ty ≡ concrete n d (parts_of code.table.bytes.now cs) →
+        (u : Usage) (r : ℕ → ℕ) (lo hi : ℕ) → Stands u s q r lo hi → v ≡ support_rules st (supports st) ty (concrete n d (parts_of code.table.bytes.now cs)) at u) →
+        Supports code ty at s q v
     by_rules f = record {
       is = λ st k b u r lo hi a. let e = layout_is l y st k b in rw (one_step st k ty at u, e) (f st k b e u r lo hi a);
     }
 
-    module _ {k : Kind} {z : Bool} (w : Askable table ty s q) (x : k ≡ kind_of (command_in s q)) (tested : z ≡ sameb the_type k Unused) where
-      pub unused_supported : z ≡ true → Supports table ty at s q true
+    module _ {k : Kind} {z : Bool} (w : Askable code ty s q) (x : k ≡ kind_of (command_in s q)) (tested : z ≡ sameb the_type k Unused) where
+      pub unused_supported : z ≡ true → Supports code ty at s q true
       unfolding when◌then◌else◌
       unused_supported t =
           let same : k ≡ Unused = same_true the_type (search rules) k Unused (sym tested ∙ t) in
@@ -76,7 +76,7 @@ module _ {table : Table} {ty at : ℕ} {s : List ℕ} {q : ℕ} {r : TypeLayout}
         used : command_in s q ≡ 0 → ⊥
         used e = same_false the_type k Unused (sym tested ∙ other) (x ∙ ap kind_of e)
 
-        pub leaf_supported : v ≡ true → Supports table ty at s q true
+        pub leaf_supported : v ≡ true → Supports code ty at s q true
         unfolding when◌then◌else◌
         leaf_supported t = by_rules λ st k b e u r lo hi a. rw (used-is u s q r lo hi a used, ← leaf.is u r lo hi a, t)
 
@@ -84,11 +84,11 @@ module _ {table : Table} {ty at : ℕ} {s : List ℕ} {q : ℕ} {r : TypeLayout}
           large_is : (u : Usage) (r : ℕ → ℕ) (lo hi : ℕ) → Stands u s q r lo hi → (eqb d 0 && outside n at (size u)) ≡ g
           large_is u r lo hi a = sym (large ∙ ap (λ (m : Size). eqb d 0 && outside n at m) (here ∙ size_is u s q r lo hi a))
 
-          pub large_refused : g ≡ true → Supports table ty at s q false
+          pub large_refused : g ≡ true → Supports code ty at s q false
           unfolding when◌then◌else◌
           large_refused f = by_rules λ st k b e u r lo hi a. rw (used-is u s q r lo hi a used, ← leaf.is u r lo hi a, t, large_is u r lo hi a, f)
 
-          pub left_open : g ≡ false → LeftOpen table ty at s q
+          pub left_open : g ≡ false → LeftOpen code ty at s q
           unfolding when◌then◌else◌
           left_open f = record {
             used = used;
@@ -96,25 +96,25 @@ module _ {table : Table} {ty at : ℕ} {s : List ℕ} {q : ℕ} {r : TypeLayout}
             components = components_of l y;
             is = λ st k b u r lo hi a.
                 rw (one_step st k ty at u, layout_is l y st k b, used-is u s q r lo hi a used, ← leaf.is u r lo hi a, t, large_is u r lo hi a, f)
-                (either_or (component_supports st (supports st) (parts_of table.bytes.now cs) at u) _);
+                (either_or (component_supports st (supports st) (parts_of code.table.bytes.now cs) at u) _);
           }
 
 -- and then the components are asked, and the usage itself
 
-module _ {table : Table} {ty at : ℕ} {s : List ℕ} {q : ℕ} {h : Bool}
-    (w : LeftOpen table ty at s q) (parts : ComponentSupports table ty at s q h) where
-  parts_say : (st : Setting) → Known table st → ty < length st.table → (u : Usage) (r : ℕ → ℕ) (lo hi : ℕ) → Stands u s q r lo hi →
-      supports st ty at u ≡ (h || itself st (supports st) ty (parts_of table.bytes.now w.parts) at u)
+module _ {code : CodeSetting} {ty at : ℕ} {s : List ℕ} {q : ℕ} {h : Bool}
+    (w : LeftOpen code ty at s q) (parts : ComponentSupports code ty at s q h) where
+  parts_say : (st : Setting) → Known code st → ty < length st.table → (u : Usage) (r : ℕ → ℕ) (lo hi : ℕ) → Stands u s q r lo hi →
+      supports st ty at u ≡ (h || itself st (supports st) ty (parts_of code.table.bytes.now w.parts) at u)
   parts_say st k b u r lo hi a =
       let p = w.components in
-      rw (w.is st k b u r lo hi a, ← parts.is st k b p.size p.stride (parts_of table.bytes.now w.parts) (layout_is p.is refl st k b) u r lo hi a)
+      rw (w.is st k b u r lo hi a, ← parts.is st k b p.size p.stride (parts_of code.table.bytes.now w.parts) (layout_is p.is refl st k b) u r lo hi a)
 
-  pub part_supported : h ≡ true → Supports table ty at s q true
+  pub part_supported : h ≡ true → Supports code ty at s q true
   part_supported e = record { is = λ st k b u r lo hi a. rw (parts_say st k b u r lo hi a, e) }
 
-  pub itself_asked : {i : Bool} → h ≡ false → ItselfSupports table ty at s q i → Supports table ty at s q i
+  pub itself_asked : {i : Bool} → h ≡ false → ItselfSupports code ty at s q i → Supports code ty at s q i
   itself_asked e self = record {
     is = λ st k b u r lo hi a.
         let p = w.components in
-        rw (parts_say st k b u r lo hi a, e) (self.is st k b p.size p.stride (parts_of table.bytes.now w.parts) (layout_is p.is refl st k b) u r lo hi a);
+        rw (parts_say st k b u r lo hi a, e) (self.is st k b p.size p.stride (parts_of code.table.bytes.now w.parts) (layout_is p.is refl st k b) u r lo hi a);
   }

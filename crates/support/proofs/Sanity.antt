@@ -10,10 +10,13 @@ use Rattle.definitions.specs.Usage.{Usage, leaf, fixed}
 use Rattle.definitions.specs.Stream.{bytes}
 use Rattle.definitions.specs.Table.{Setting, concrete, scalar, elements, table_of}
 use Rattle.definitions.specs.Support.{supports, supports_in}
+use Rattle.definitions.specs.Requests.Choices.{choices_of}
+use Rattle.qptr.specs.Choices.{choices_in}
+use Rattle.qptr.specs.declared.choices.Ties.TheVariants.{First}
 use Rattle.numbers.specs.Words.{number_at}
 use Rattle.record_links.specs.Standing.{Stands}
 use Rattle.layout.specs.Located.{Located}
-use Rattle.layout.specs.declared.table.Table.{Table}
+use Rattle.layout.specs.declared.setting.Setting.{Setting as CodeSetting}
 use Rattle.support.specs.Askable.{Askable}
 
 -- type 0 is a scalar of 4 bytes, and type 1 four of them in a row
@@ -24,14 +27,17 @@ first = 0x20 ∷ bytes 4 4 ++ bytes 4 0
 second : List ℕ
 second = 0x21 ∷ bytes 4 16 ++ bytes 4 0 ++ bytes 4 4 ++ bytes 4 0 ++ bytes 4 4
 
-table : Table
-table = record {
-  bytes = record { ref_ptr = (0, 0); now = bytes 2 2 ++ first ++ second };
-  starts = record { ref_ptr = (0, 0); now = 2 ∷ 11 ∷ [] };
+code : CodeSetting
+code = record {
+  table = record {
+    bytes = record { ref_ptr = (0, 0); now = bytes 2 2 ++ first ++ second };
+    starts = record { ref_ptr = (0, 0); now = 2 ∷ 11 ∷ [] };
+  };
+  choices = record { ties = First };
 }
 
 setting : Setting
-setting = record { table = concrete 4 0 scalar ∷ concrete 16 0 (elements 4 0 4) ∷ [] }
+setting = record { table = concrete 4 0 scalar ∷ concrete 16 0 (elements 4 0 4) ∷ []; choices = choices_of 1 }
 
 -- a leaf of type 0, as record 1
 asked : Usage
@@ -40,16 +46,16 @@ asked = leaf (fixed 4) true 0
 records_with_it : List ℕ
 records_with_it = bytes 32 0 ++ bytes 2 1 ++ bytes 2 1 ++ bytes 4 0 ++ bytes 4 1 ++ bytes 4 4 ++ bytes 4 0 ++ bytes 4 0 ++ bytes 8 0
 
-stands : (ty : ℕ) → ty < 2 → Located table setting.table ty
-unfolding table setting first second when◌then◌else◌
+stands : (ty : ℕ) → ty < 2 → Located code.table setting.table ty
+unfolding code setting first second when◌then◌else◌
 stands zero l = record { kept = omega arith; rest = second; stands = refl; admits = refl }
 stands (suc zero) l = record { kept = omega arith; rest = []; stands = refl; admits = refl }
 stands (suc (suc ty)) l = absurd (omega arith)
 
-askable : Askable table 1 records_with_it 1
-unfolding table setting first second asked records_with_it table_of when◌then◌else◌ Stands number_at
+askable : Askable code 1 records_with_it 1
+unfolding choices_in code setting first second asked records_with_it table_of when◌then◌else◌ Stands number_at
 askable = record {
-  type = record { setting = setting; known = record { read = refl; placed = stands }; below = omega arith };
+  type = record { setting = setting; known = record { read = refl; placed = stands; chosen = refl }; below = omega arith };
   usage = record {
     usage = asked;
     rank = λ i. i;

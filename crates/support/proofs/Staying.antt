@@ -12,26 +12,26 @@ use Rattle.support.specs.Askable.{Askable, ConcreteAskable}
 use Rattle.support.specs.Supported.{Supports, EntrySupported, ItselfSupports, Asked}
 use Rattle.support.specs.Cache.{LeftOpen}
 use Rattle.support.specs.declared.NotAsked.{NotAsked}
-use Rattle.layout.specs.declared.table.Table.{Table}
+use Rattle.layout.specs.declared.setting.Setting.{Setting as CodeSetting}
 
 module _ {s s' : List ℕ} (U : Unchanged s s') where
-  module _ {table : Table} {ty at q : ℕ} where
-    pub supports_after : {r : Bool} → Supports table ty at s q r → Supports table ty at s' q r
+  module _ {code : CodeSetting} {ty at q : ℕ} where
+    pub supports_after : {r : Bool} → Supports code ty at s q r → Supports code ty at s' q r
     supports_after g = record { is = λ st k b u r lo hi a. g.is st k b u r lo hi (back U u q r lo hi a) }
 
-    pub supports_before : {r : Bool} → Supports table ty at s' q r → Supports table ty at s q r
+    pub supports_before : {r : Bool} → Supports code ty at s' q r → Supports code ty at s q r
     supports_before g = record { is = λ st k b u r lo hi a. g.is st k b u r lo hi (there U u q r lo hi a) }
 
-    pub entry_before : {r : Bool} → EntrySupported table ty at s' q r → EntrySupported table ty at s q r
+    pub entry_before : {r : Bool} → EntrySupported code ty at s' q r → EntrySupported code ty at s q r
     entry_before g = record { is = λ st k b n d cs l u r lo hi a. rw (← offset_stays U q) (g.is st k b n d cs l u r lo hi (there U u q r lo hi a)) }
 
-    pub itself_before : {r : Bool} → ItselfSupports table ty at s' q r → ItselfSupports table ty at s q r
+    pub itself_before : {r : Bool} → ItselfSupports code ty at s' q r → ItselfSupports code ty at s q r
     itself_before g = record { is = λ st k b n d cs l u r lo hi a. g.is st k b n d cs l u r lo hi (there U u q r lo hi a) }
 
-    pub answers_before : {r : Result Bool NotAsked} → Asked table ty at s' q r → Asked table ty at s q r
+    pub answers_before : {r : Result Bool NotAsked} → Asked code ty at s' q r → Asked code ty at s q r
     answers_before g = record { is = λ st k b u r lo hi a. g.is st k b u r lo hi (there U u q r lo hi a) }
 
-    pub open_after : LeftOpen table ty at s q → LeftOpen table ty at s' q
+    pub open_after : LeftOpen code ty at s q → LeftOpen code ty at s' q
     open_after h = record {
       used = λ e. h.used (sym (command_stays U q) ∙ e);
       parts = h.parts;
@@ -39,9 +39,9 @@ module _ {s s' : List ℕ} (U : Unchanged s s') where
       is = λ st k b u r lo hi a. h.is st k b u r lo hi (back U u q r lo hi a);
     }
 
-  module _ {table : Table} {ty q : ℕ} where
-    abbrev pub asks_after : Askable table ty s q → Askable table ty s' q
+  module _ {code : CodeSetting} {ty q : ℕ} where
+    abbrev pub asks_after : Askable code ty s q → Askable code ty s' q
     asks_after w = record { type = w.type; usage = usage_after U w.usage }
 
-    pub concrete_after : ConcreteAskable table ty s q → ConcreteAskable table ty s' q
+    pub concrete_after : ConcreteAskable code ty s q → ConcreteAskable code ty s' q
     concrete_after w = record { asks = asks_after w.asks; size = w.size; stride = w.stride; parts = w.parts; layout = w.layout }

@@ -6,7 +6,7 @@ ghost use Rattle.support.specs.Askable.{Askable};
 ghost use Rattle.support.specs.Supported.{WholeLeaf, Supports};
 ghost use Rattle.support.specs.Cache.{LeftOpen};
 
-use layout::{Table, TypeLayout, end_of};
+use layout::{Setting, TypeLayout, end_of};
 use qptr::{Kind, MaxSize};
 use records::{argument, kind, max_size};
 
@@ -43,15 +43,21 @@ fn is_whole_leaf(ty: u32, at: u32, s: &[u8], q: usize) -> bool
 
 // The tests that need no further question. None of them answers where the components are to be asked, and then the usage itself.
 // A type that is not concrete supports nothing.
-pub(super) fn first_tests(table: &Table<'_>, ty: u32, at: u32, s: &[u8], q: usize) -> Option<bool>
-    requires { Askable table.now ty s.now q }
-    ensures { MatchOption result (LeftOpen table.now ty at s.now q) (Supports table.now ty at s.now q) }
+pub(super) fn first_tests(
+    setting: &Setting<'_>,
+    ty: u32,
+    at: u32,
+    s: &[u8],
+    q: usize,
+) -> Option<bool>
+    requires { Askable setting.now ty s.now q }
+    ensures { MatchOption result (LeftOpen setting.now ty at s.now q) (Supports setting.now ty at s.now q) }
 {
     let TypeLayout::Concrete {
         size,
         dyn_stride,
         ..
-    } = table.layout_of(ty)
+    } = setting.table.layout_of(ty)
     else {
         return Some(false);
     };

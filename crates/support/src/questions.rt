@@ -10,7 +10,7 @@ ghost use Rattle.support.specs.Supported.{Supports, ComponentSupports, EntrySupp
 ghost use Rattle.support.specs.Cache.{CacheTrue, Kept, LeftOpen};
 
 use crate::at_once::first_tests;
-use layout::{Array, Components, Table, TypeLayout, end_of};
+use layout::{Array, Components, Setting, TypeLayout, end_of};
 use qptr::{Kind, MaxSize};
 use records::{argument, child, kind, max_size, next, offset};
 use support_cache::{CachedAnswer, recall, remember};
@@ -22,22 +22,22 @@ use support_cache::{CachedAnswer, recall, remember};
 // Does some component that contains the usage at record q support it at the remaining offset?
 #[cycle(support)]
 fn any_component_supports(
-    table: &Table<'_>,
+    setting: &Setting<'_>,
     ty: u32,
     at: u32,
     s: &mut [u8],
     q: usize,
     cached: &mut [CachedAnswer],
 ) -> bool
-    requires concrete_askable { ConcreteAskable table.now ty s.old q }
-    requires cache_true { CacheTrue table.now s.old q cached.old }
-    ensures component_supports { ComponentSupports table.now ty at s.old q result }
-    ensures kept { Kept table.now s.old s.new cached.old cached.new }
+    requires concrete_askable { ConcreteAskable setting.now ty s.old q }
+    requires cache_true { CacheTrue setting.now s.old q cached.old }
+    ensures component_supports { ComponentSupports setting.now ty at s.old q result }
+    ensures kept { Kept setting.now s.old s.new cached.old cached.new }
 {
     let end = end_of(at, max_size(s, q));
     let mut from = 0;
-    while let Some(component) = table.find_components_containing(ty, from, at, end) {
-        if supports_inside(table, component.ty, component.rest, s, q, cached, true) {
+    while let Some(component) = setting.table.find_components_containing(ty, from, at, end) {
+        if supports_inside(setting, component.ty, component.rest, s, q, cached, true) {
             return true;
         }
         from = component.next;
@@ -49,22 +49,22 @@ fn any_component_supports(
 // question writes to, so no iterator can hold these.
 #[cycle(support)]
 fn entries_supported(
-    table: &Table<'_>,
+    setting: &Setting<'_>,
     ty: u32,
     at: u32,
     s: &mut [u8],
     q: usize,
     cached: &mut [CachedAnswer],
 ) -> bool
-    requires concrete_askable { ConcreteAskable table.now ty s.old q }
-    requires cache_true { CacheTrue table.now s.old q cached.old }
+    requires concrete_askable { ConcreteAskable setting.now ty s.old q }
+    requires cache_true { CacheTrue setting.now s.old q cached.old }
     requires map { command_in s.old q ≡ command_of OffsetBase }
-    ensures entries_supported { EntriesSupported table.now ty at s.old q result }
-    ensures kept { Kept table.now s.old s.new cached.old cached.new }
+    ensures entries_supported { EntriesSupported setting.now ty at s.old q result }
+    ensures kept { Kept setting.now s.old s.new cached.old cached.new }
 {
     let mut e = child(s, q);
     while e != 0 {
-        if !entry_supported(table, ty, at, s, e, cached) {
+        if !entry_supported(setting, ty, at, s, e, cached) {
             return false;
         }
         e = next(s, e);
@@ -75,22 +75,22 @@ fn entries_supported(
 // By this whole layout if the sum is 0, else by a containing component.
 #[cycle(support)]
 fn entry_supported(
-    table: &Table<'_>,
+    setting: &Setting<'_>,
     ty: u32,
     at: u32,
     s: &mut [u8],
     e: usize,
     cached: &mut [CachedAnswer],
 ) -> bool
-    requires concrete_askable { ConcreteAskable table.now ty s.old e }
-    requires cache_true { CacheTrue table.now s.old e cached.old }
-    ensures entry_supported { EntrySupported table.now ty at s.old e result }
-    ensures kept { Kept table.now s.old s.new cached.old cached.new }
+    requires concrete_askable { ConcreteAskable setting.now ty s.old e }
+    requires cache_true { CacheTrue setting.now s.old e cached.old }
+    ensures entry_supported { EntrySupported setting.now ty at s.old e result }
+    ensures kept { Kept setting.now s.old s.new cached.old cached.new }
 {
     let Some(sum) = at.checked_add(offset(s, e)) else {
         return false;
     };
-    supports_inside(table, ty, sum, s, e, cached, sum == 0)
+    supports_inside(setting, ty, sum, s, e, cached, sum == 0)
 }
 
 // The array's size against the layout's length (0 = none): dynamic with no length, or whole elements up to the length.
@@ -111,18 +111,18 @@ fn same_length(stride: u32, len: u32, at: u32, size: MaxSize) -> bool
 // Do elements of this stride, type and length support the array at record q? Its stride has to be theirs.
 #[cycle(support)]
 fn elements_supported(
-    table: &Table<'_>,
+    setting: &Setting<'_>,
     array: Array,
     at: u32,
     s: &mut [u8],
     q: usize,
     cached: &mut [CachedAnswer],
 ) -> bool
-    requires askable { Askable table.now array.elem s.old q }
-    requires cache_true { CacheTrue table.now s.old q cached.old }
+    requires askable { Askable setting.now array.elem s.old q }
+    requires cache_true { CacheTrue setting.now s.old q cached.old }
     requires stride_nonzero { (0 < array.stride) × (command_in s.old q ≡ command_of DynOffsetBase) }
-    ensures elements_supported { ElementsSupported table.now array at s.old q result }
-    ensures kept { Kept table.now s.old s.new cached.old cached.new }
+    ensures elements_supported { ElementsSupported setting.now array at s.old q result }
+    ensures kept { Kept setting.now s.old s.new cached.old cached.new }
 {
     let stride = array.stride;
     if stride != argument(s, q) {
@@ -135,15 +135,15 @@ fn elements_supported(
         return false;
     }
     let e = child(s, q);
-    supports_inside(table, array.elem, 0, s, e, cached, true)
+    supports_inside(setting, array.elem, 0, s, e, cached, true)
 }
 
 // The components of a concrete layout.
-fn components_of(table: &Table<'_>, ty: u32) -> Components
-    requires { ConcreteType table.now ty }
-    ensures { ComponentsOf table.now ty result }
+fn components_of(setting: &Setting<'_>, ty: u32) -> Components
+    requires { ConcreteType setting.now ty }
+    ensures { ComponentsOf setting.now ty result }
 {
-    match table.layout_of(ty) {
+    match setting.table.layout_of(ty) {
         TypeLayout::Concrete { components, .. } => components,
         TypeLayout::Handle | TypeLayout::Failed => unreachable!(),
     }
@@ -152,25 +152,25 @@ fn components_of(table: &Table<'_>, ty: u32) -> Components
 // What is asked once no component supports the usage at record q, by its kind: only elements support an array.
 #[cycle(support)]
 fn itself_supports(
-    table: &Table<'_>,
+    setting: &Setting<'_>,
     ty: u32,
     at: u32,
     s: &mut [u8],
     q: usize,
     cached: &mut [CachedAnswer],
 ) -> bool
-    requires concrete_askable { ConcreteAskable table.now ty s.old q }
-    requires cache_true { CacheTrue table.now s.old q cached.old }
+    requires concrete_askable { ConcreteAskable setting.now ty s.old q }
+    requires cache_true { CacheTrue setting.now s.old q cached.old }
     requires not_unused { command_in s.old q ≡ command_of Unused → ⊥ }
-    ensures itself_supports { ItselfSupports table.now ty at s.old q result }
-    ensures kept { Kept table.now s.old s.new cached.old cached.new }
+    ensures itself_supports { ItselfSupports setting.now ty at s.old q result }
+    ensures kept { Kept setting.now s.old s.new cached.old cached.new }
 {
     match kind(s, q) {
         Kind::Unused | Kind::StrictlyTyped | Kind::DirectAccess => false,
-        Kind::OffsetBase => entries_supported(table, ty, at, s, q, cached),
-        Kind::DynOffsetBase => match components_of(table, ty) {
+        Kind::OffsetBase => entries_supported(setting, ty, at, s, q, cached),
+        Kind::DynOffsetBase => match components_of(setting, ty) {
             Components::Scalar | Components::Fields(_) => false,
-            Components::Elements(array) => elements_supported(table, array, at, s, q, cached),
+            Components::Elements(array) => elements_supported(setting, array, at, s, q, cached),
         },
     }
 }
@@ -178,7 +178,7 @@ fn itself_supports(
 // What is left open: the components are asked, and then, of the whole layout, the usage itself.
 #[cycle(support)]
 fn supports_past_tests(
-    table: &Table<'_>,
+    setting: &Setting<'_>,
     ty: u32,
     at: u32,
     s: &mut [u8],
@@ -186,14 +186,14 @@ fn supports_past_tests(
     cached: &mut [CachedAnswer],
     whole: bool,
 ) -> bool
-    requires concrete_askable { ConcreteAskable table.now ty s.old q }
-    requires cache_true { CacheTrue table.now s.old q cached.old }
-    requires left_open { whole ≡ true → LeftOpen table.now ty at s.old q }
-    ensures says { Says table.now ty at s.old q whole result }
-    ensures kept { Kept table.now s.old s.new cached.old cached.new }
+    requires concrete_askable { ConcreteAskable setting.now ty s.old q }
+    requires cache_true { CacheTrue setting.now s.old q cached.old }
+    requires left_open { whole ≡ true → LeftOpen setting.now ty at s.old q }
+    ensures says { Says setting.now ty at s.old q whole result }
+    ensures kept { Kept setting.now s.old s.new cached.old cached.new }
 {
-    any_component_supports(table, ty, at, s, q, cached)
-        || whole && itself_supports(table, ty, at, s, q, cached)
+    any_component_supports(setting, ty, at, s, q, cached)
+        || whole && itself_supports(setting, ty, at, s, q, cached)
 }
 
 // Answers of the whole layout are remembered, those of its components alone are not.
@@ -219,7 +219,7 @@ fn recall_whole(
 // of this function and those it goes through, and types nested deep take little stack.
 #[cycle(support)]
 pub(super) fn supports_or_recalls(
-    table: &Table<'_>,
+    setting: &Setting<'_>,
     ty: u32,
     at: u32,
     s: &mut [u8],
@@ -227,16 +227,16 @@ pub(super) fn supports_or_recalls(
     cached: &mut [CachedAnswer],
     whole: bool,
 ) -> bool
-    requires concrete_askable { ConcreteAskable table.now ty s.old q }
-    requires cache_true { CacheTrue table.now s.old q cached.old }
-    requires left_open { whole ≡ true → LeftOpen table.now ty at s.old q }
-    ensures says { Says table.now ty at s.old q whole result }
-    ensures kept { Kept table.now s.old s.new cached.old cached.new }
+    requires concrete_askable { ConcreteAskable setting.now ty s.old q }
+    requires cache_true { CacheTrue setting.now s.old q cached.old }
+    requires left_open { whole ≡ true → LeftOpen setting.now ty at s.old q }
+    ensures says { Says setting.now ty at s.old q whole result }
+    ensures kept { Kept setting.now s.old s.new cached.old cached.new }
 {
     if let Some(yes) = recall_whole(ty, at, s, q, cached, whole) {
         return yes;
     }
-    let yes = supports_past_tests(table, ty, at, s, q, cached, whole);
+    let yes = supports_past_tests(setting, ty, at, s, q, cached, whole);
     if !whole {
         return yes;
     }
@@ -245,12 +245,19 @@ pub(super) fn supports_or_recalls(
 }
 
 // The first tests are of the whole layout; its components alone are left open.
-fn test_whole(table: &Table<'_>, ty: u32, at: u32, s: &[u8], q: usize, whole: bool) -> Option<bool>
-    requires { Askable table.now ty s.now q }
-    ensures { MatchOption result (whole ≡ true → LeftOpen table.now ty at s.now q) (λ yes. (whole ≡ true) × Supports table.now ty at s.now q yes) }
+fn test_whole(
+    setting: &Setting<'_>,
+    ty: u32,
+    at: u32,
+    s: &[u8],
+    q: usize,
+    whole: bool,
+) -> Option<bool>
+    requires { Askable setting.now ty s.now q }
+    ensures { MatchOption result (whole ≡ true → LeftOpen setting.now ty at s.now q) (λ yes. (whole ≡ true) × Supports setting.now ty at s.now q yes) }
 {
     if whole {
-        first_tests(table, ty, at, s, q)
+        first_tests(setting, ty, at, s, q)
     } else {
         None
     }
@@ -259,7 +266,7 @@ fn test_whole(table: &Table<'_>, ty: u32, at: u32, s: &[u8], q: usize, whole: bo
 // A question inside of another, of the whole layout or of its components alone.
 #[cycle(support)]
 fn supports_inside(
-    table: &Table<'_>,
+    setting: &Setting<'_>,
     ty: u32,
     at: u32,
     s: &mut [u8],
@@ -267,14 +274,14 @@ fn supports_inside(
     cached: &mut [CachedAnswer],
     whole: bool,
 ) -> bool
-    requires askable { Askable table.now ty s.old q }
-    requires cache_true { CacheTrue table.now s.old q cached.old }
-    requires concrete_askable { whole ≡ false → ConcreteAskable table.now ty s.old q }
-    ensures says { Says table.now ty at s.old q whole result }
-    ensures kept { Kept table.now s.old s.new cached.old cached.new }
+    requires askable { Askable setting.now ty s.old q }
+    requires cache_true { CacheTrue setting.now s.old q cached.old }
+    requires concrete_askable { whole ≡ false → ConcreteAskable setting.now ty s.old q }
+    ensures says { Says setting.now ty at s.old q whole result }
+    ensures kept { Kept setting.now s.old s.new cached.old cached.new }
 {
-    match test_whole(table, ty, at, s, q, whole) {
+    match test_whole(setting, ty, at, s, q, whole) {
         Some(yes) => yes,
-        None => supports_or_recalls(table, ty, at, s, q, cached, whole),
+        None => supports_or_recalls(setting, ty, at, s, q, cached, whole),
     }
 }

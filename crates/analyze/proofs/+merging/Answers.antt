@@ -53,7 +53,7 @@ merge_mem_at-returns-in_err-r-in-Merge t c =
     rw (p.1, p.2) (loop_refused c.requires.ready c.requires.near c.in_ok-st.ensures c.turns.invariant c.in-Pair.is (merged_pair _ c.in-Merge.is c.in_err-r-in-Merge.ensures))
 
 -- whichever call the pair asked for, it gave what placing or merging gives
-pair_placed : (t : ℕ) (c : merge_mem_at-After-take_result-st t) → Placed (acting c.in-Pair.how c.turns.st.d) c.args.table.now c.turns.s c.turns.st.x c.turns.st.m c.match-how.s (Ok c.match-how.r) c.turns.report c.match-how.report
+pair_placed : (t : ℕ) (c : merge_mem_at-After-take_result-st t) → Placed (acting c.in-Pair.how c.turns.st.d) c.args.setting.now c.turns.s c.turns.st.x c.turns.st.m c.match-how.s (Ok c.match-how.r) c.turns.report c.match-how.report
 pair_placed t c = elim c.match-how.branch [
   | merge_mem_at-in-Place+in_ok-r-in-Place w ↦ rw (← w.s-is, ← w.report-is, ← w.r-is) at (placed_pair c.turns.st.d w.in-Place.is w.in_ok-r-in-Place.ensures)
   | merge_mem_at-in-Merge+in_ok-r-in-Merge w ↦ rw (← w.s-is, ← w.report-is, ← w.r-is) at (merged_pair c.turns.st.d w.in-Merge.is w.in_ok-r-in-Merge.ensures)

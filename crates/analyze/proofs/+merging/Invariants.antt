@@ -13,7 +13,7 @@ abbrev pub decreases-merge_mem_at : goal.decreases-merge_mem_at
 decreases-merge_mem_at l = (nodes_at l.s.now l.a + nodes_at l.s.now l.b) * 2
 
 abbrev pub invariant-merge_mem_at-turns : goal.invariant-merge_mem_at-turns
-invariant-merge_mem_at-turns l = Loop l.table l.initial.s l.initial.report l.initial.st l.fn.report.at l.a l.s l.report l.st
+invariant-merge_mem_at-turns l = Loop l.setting l.initial.s l.initial.report l.initial.st l.fn.report.at l.a l.s l.report l.st
 
 abbrev pub decreases-merge_mem_at-turns : goal.decreases-merge_mem_at-turns
 decreases-merge_mem_at-turns l = chain 65536 l.s l.st.rest * 3 + turns l.st.todo

@@ -42,7 +42,7 @@ pub returns-in_err-f : goal.returns-in_err-f
 returns-in_err-f c =
     let p = err_from_is_err_and c.from_residual.result c.from_residual.ensures.1 in
     let ready = c.requires in
-    let refused = λ (st : Setting) (ns : Nodes) (h : Foldable c.args.table.now c.args.list.now st ns). turn_refused (c.loop-i.invariant.0 st ns h) h.known c.loop-i-test.true c.in_err-f.ensures refl in
+    let refused = λ (st : Setting) (ns : Nodes) (h : Foldable c.args.setting.now c.args.list.now st ns). turn_refused (c.loop-i.invariant.0 st ns h) h.known c.loop-i-test.true c.in_err-f.ensures refl in
     let kept = (refused ready.setting ready.listed ready.foldable).1 in
     rw (p.1, p.2) (record { of = λ st ns h. (refused st ns h).0; kept = record { size = kept.size; name = kept.name } })
 

@@ -8,4 +8,4 @@ use Rattle.call_fold.proofs.Folds.{Folding}
 use Rattle.call_fold.proofs.fold_nodes.Given as goal
 
 abbrev pub invariant-loop-i : goal.invariant-loop-i
-invariant-loop-i l = ((st : Setting) (ns : Nodes) → Foldable l.table l.list st ns → Folding st ns l.list l.count l.initial.report l.work l.report l.f l.i) × (length l.work ≡ length l.initial.work)
+invariant-loop-i l = ((st : Setting) (ns : Nodes) → Foldable l.setting l.list st ns → Folding st ns l.list l.count l.initial.report l.work l.report l.f l.i) × (length l.work ≡ length l.initial.work)

@@ -1,6 +1,5 @@
 -- `qptr_merge` meets its contract. The check finds this alone; written out, a wrong answer fails soon.
-use Rattle.exports.proofs.Leaving.{left}
 use Rattle.exports.proofs.qptr_merge.Goals as goal
 
 pub returns : goal.returns
-returns c = left c.numbers.ensures c.from.ensures c.merge.ensures
+returns c = c.qptr_merge_with.ensures

@@ -2,6 +2,7 @@
 -- nodes follows from what the call is defined to give.
 use mathlib.Core.Path.{refl}
 use lib.ListN.{length}
+use Rattle.qptr.specs.Choices.{choices_in}
 use Rattle.layout.proofs.Uses.{holds_whole}
 use Rattle.call_inputs.specs.Inputs.{Good}
 use Rattle.call_inputs.proofs.Accepting.{none_told}
@@ -20,21 +21,21 @@ returns-in-Err c =
     let a = c.args in
     let met = met_lent c.list-found.ensures refl c.list-found.auto.window c.in-Err.ensures in
     let both =
-    with_promise a.table.now (length a.work.now) a.list.now (λ k. (c.type_inv.list k).fits) a.output.now (length a.rep.now)
-    (call_cleared (length a.rep.now) (fold_is a.table.now (length a.work.now) a.list.now a.output.now (length a.rep.now)) met c.cleared.ensures.same c.cleared.ensures.refused) in
+    with_promise (choices_in a.choices) a.table.now (length a.work.now) a.list.now (λ k. (c.type_inv.list k).fits) a.output.now (length a.rep.now)
+    (call_cleared (length a.rep.now) (fold_is a.choices a.table.now (length a.work.now) a.list.now a.output.now (length a.rep.now)) met c.cleared.ensures.same c.cleared.ensures.refused) in
     record { gives = both.0; promised = both.1 }
 
 pub fold_loaded-requires : goal.fold_loaded-requires
 fold_loaded-requires c =
     let a = c.args in
-    fold_ready a.table.now (length a.work.now) a.list.now (good (goal.at.fold_loaded-requires c).In-Ok) (λ k. (c.type_inv.list k).fits) (holds_whole refl refl)
+    fold_ready a.choices a.table.now (length a.work.now) a.list.now (good (goal.at.fold_loaded-requires c).In-Ok) (λ k. (c.type_inv.list k).fits) (holds_whole refl refl)
     c.area.ensures c.list-found.new.window c.list-found.auto.window
 
 pub returns : goal.returns
 returns c =
     let a = c.args in
     let both =
-    with_promise a.table.now (length a.work.now) a.list.now (λ k. (c.type_inv.list k).fits) a.output.now (length a.rep.now)
-    (fold_given a.table.now (length a.work.now) a.list.now (good (goal.at.returns c).In-Ok) (λ k. (c.type_inv.list k).fits) (holds_whole refl refl)
+    with_promise (choices_in a.choices) a.table.now (length a.work.now) a.list.now (λ k. (c.type_inv.list k).fits) a.output.now (length a.rep.now)
+    (fold_given a.choices a.table.now (length a.work.now) a.list.now (good (goal.at.returns c).In-Ok) (λ k. (c.type_inv.list k).fits) (holds_whole refl refl)
     a.output.now a.rep.now c.fold_loaded.ensures) in
     record { gives = both.0; promised = both.1 }

@@ -20,36 +20,36 @@ pub returns-in-Err : goal.returns-in-Err
 returns-in-Err c =
     let a = c.args in
     let met = met_lent c.top-a.ensures c.top-b.ensures (c.top-b.auto.window ∙ c.top-a.auto.window) c.in-Err.ensures in
-    call_cleared (length a.rep.now) (merge_is a.table.now (length a.work.now) a.first.now a.second.now a.output.now (length a.rep.now)) met c.cleared.ensures.same c.cleared.ensures.refused
+    call_cleared (length a.rep.now) (merge_is a.choices a.table.now (length a.work.now) a.first.now a.second.now a.output.now (length a.rep.now)) met c.cleared.ensures.same c.cleared.ensures.refused
 
 pub bounds-first-0 : goal.bounds-first-0
 bounds-first-0 c =
     let a = c.args in
-    first_some a.table.now (length a.work.now) a.first.now a.second.now (good (goal.at.bounds-first-0 c).In-Ok)
+    first_some a.choices a.table.now (length a.work.now) a.first.now a.second.now (good (goal.at.bounds-first-0 c).In-Ok)
     (λ k. (c.type_inv.first k).fits) (λ k. (c.type_inv.second k).fits)
 
 pub conflicts-requires : goal.conflicts-requires
 conflicts-requires c =
     let a = c.args in
-    opaque_first a.table.now (length a.work.now) a.first.now a.second.now (good (goal.at.conflicts-requires c).In-Ok)
+    opaque_first a.choices a.table.now (length a.work.now) a.first.now a.second.now (good (goal.at.conflicts-requires c).In-Ok)
     (λ k. (c.type_inv.first k).fits) (λ k. (c.type_inv.second k).fits) c.if-top-eq-OPAQUE.true
 
 pub returns-then-top-eq-OPAQUE : goal.returns-then-top-eq-OPAQUE
 returns-then-top-eq-OPAQUE c =
     let a = c.args in
-    merge_opaque a.table.now (length a.work.now) a.first.now a.second.now (good (goal.at.returns-then-top-eq-OPAQUE c).In-Ok)
+    merge_opaque a.choices a.table.now (length a.work.now) a.first.now a.second.now (good (goal.at.returns-then-top-eq-OPAQUE c).In-Ok)
     (λ k. (c.type_inv.first k).fits) (λ k. (c.type_inv.second k).fits) c.if-top-eq-OPAQUE.true c.conflicts.ensures a.output.now (length a.rep.now) c.keep.ensures
 
 pub bounds-second-0 : goal.bounds-second-0
 bounds-second-0 c =
     let a = c.args in
-    second_some a.table.now (length a.work.now) a.first.now a.second.now (good (goal.at.bounds-second-0 c).In-Ok)
+    second_some a.choices a.table.now (length a.work.now) a.first.now a.second.now (good (goal.at.bounds-second-0 c).In-Ok)
     (λ k. (c.type_inv.first k).fits) (λ k. (c.type_inv.second k).fits)
 
 pub returns-then-top-second : goal.returns-then-top-second
 returns-then-top-second c =
     let a = c.args in
-    merge_unlike a.table.now (length a.work.now) a.first.now a.second.now (good (goal.at.returns-then-top-second c).In-Ok)
+    merge_unlike a.choices a.table.now (length a.work.now) a.first.now a.second.now (good (goal.at.returns-then-top-second c).In-Ok)
     (λ k. (c.type_inv.first k).fits) (λ k. (c.type_inv.second k).fits) c.if-top-second.true a.output.now (length a.rep.now) c.keep-then-top-second.ensures
 
 pub merge_loaded-requires : goal.merge_loaded-requires
@@ -57,7 +57,7 @@ merge_loaded-requires c =
     let a = c.args in
     let is = good (goal.at.merge_loaded-requires c).In-Ok in
     let merged =
-    merge_alike a.table.now (length a.work.now) a.first.now a.second.now is (λ k. (c.type_inv.first k).fits) (λ k. (c.type_inv.second k).fits)
+    merge_alike a.choices a.table.now (length a.work.now) a.first.now a.second.now is (λ k. (c.type_inv.first k).fits) (λ k. (c.type_inv.second k).fits)
     c.if-top-eq-OPAQUE.false c.if-top-second.false in
     pair_ready is (holds_whole refl refl) merged.pair c.area.ensures c.top-b.new.window (c.top-b.auto.window ∙ c.top-a.auto.window)
 
@@ -67,5 +67,5 @@ returns c =
     let is = good (goal.at.returns c).In-Ok in
     let first : Bytes a.first.now = λ k. (c.type_inv.first k).fits in
     let second : Bytes a.second.now = λ k. (c.type_inv.second k).fits in
-    let merged = merge_alike a.table.now (length a.work.now) a.first.now a.second.now is first second c.if-top-eq-OPAQUE.false c.if-top-second.false in
-    merge_gives a.table.now (length a.work.now) a.first.now a.second.now is first second merged (holds_whole refl refl) a.output.now a.rep.now c.merge_loaded.ensures
+    let merged = merge_alike a.choices a.table.now (length a.work.now) a.first.now a.second.now is first second c.if-top-eq-OPAQUE.false c.if-top-second.false in
+    merge_gives a.choices a.table.now (length a.work.now) a.first.now a.second.now is first second merged (holds_whole refl refl) a.output.now a.rep.now c.merge_loaded.ensures

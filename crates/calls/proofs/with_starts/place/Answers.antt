@@ -19,18 +19,18 @@ pub returns-in-Err : goal.returns-in-Err
 returns-in-Err c =
     let a = c.args in
     let met = met_lent c.memory-a.ensures c.memory-b.ensures (c.memory-b.auto.window ∙ c.memory-a.auto.window) c.in-Err.ensures in
-    call_cleared (length a.rep.now) (place_is a.table.now (length a.work.now) a.first.now a.offset a.second.now a.output.now (length a.rep.now)) met c.cleared.ensures.same
+    call_cleared (length a.rep.now) (place_is a.choices a.table.now (length a.work.now) a.first.now a.offset a.second.now a.output.now (length a.rep.now)) met c.cleared.ensures.same
     c.cleared.ensures.refused
 
 pub place_loaded-requires : goal.place_loaded-requires
 place_loaded-requires c =
     let a = c.args in
     let is = good (goal.at.place_loaded-requires c).In-Ok in
-    let pair = place_pair a.table.now (length a.work.now) a.first.now a.offset a.second.now is (λ k. (c.type_inv.first k).fits) (λ k. (c.type_inv.second k).fits) in
+    let pair = place_pair a.choices a.table.now (length a.work.now) a.first.now a.offset a.second.now is (λ k. (c.type_inv.first k).fits) (λ k. (c.type_inv.second k).fits) in
     pair_ready is (holds_whole refl refl) pair c.area.ensures c.memory-b.new.window (c.memory-b.auto.window ∙ c.memory-a.auto.window)
 
 pub returns : goal.returns
 returns c =
     let a = c.args in
-    place_gives a.table.now (length a.work.now) a.first.now a.offset a.second.now (good (goal.at.returns c).In-Ok)
+    place_gives a.choices a.table.now (length a.work.now) a.first.now a.offset a.second.now (good (goal.at.returns c).In-Ok)
     (λ k. (c.type_inv.first k).fits) (λ k. (c.type_inv.second k).fits) (holds_whole refl refl) a.output.now a.rep.now c.place_loaded.ensures

@@ -12,7 +12,7 @@ use Rattle.definitions.specs.Usage.{Usage}
 use Rattle.definitions.specs.Table.{Setting, Components as Parts}
 use Rattle.definitions.specs.Support.{Asking, entry_supported, supports}
 use Rattle.records.specs.Records.{offset_in}
-use Rattle.layout.specs.declared.table.Table.{Table}
+use Rattle.layout.specs.declared.setting.Setting.{Setting as CodeSetting}
 use Rattle.layout.proofs.Uses.{component_below}
 use Rattle.support_cache.specs.Nodes.{Child}
 use Rattle.support_cache.proofs.Staying.{unchanged_both, next_stays}
@@ -173,9 +173,9 @@ past_32 : (st : Setting) (ask : Asking) (ty : ℕ) (cs : Parts) (n : ℕ) (u : U
 past_32 st ask ty cs zero u h = absurd (h (omega arith))
 past_32 st ask ty cs (suc m) u h = rw (lt-leb (suc m) 4294967295 (omega (arith, h))) refl
 
-module _ {table : Table} {ty : ℕ} {s : List ℕ} {q : ℕ} {v : Bool} where
-  by_sum : (n : ℕ) → n < 4294967296 → Says table ty n s q (eqb n 0) v →
-      InLayout table ty λ st cs. OfEach s q λ u. v ≡ entry_supported st (supports st) ty cs n u
+module _ {code : CodeSetting} {ty : ℕ} {s : List ℕ} {q : ℕ} {v : Bool} where
+  by_sum : (n : ℕ) → n < 4294967296 → Says code ty n s q (eqb n 0) v →
+      InLayout code ty λ st cs. OfEach s q λ u. v ≡ entry_supported st (supports st) ty cs n u
   by_sum zero l S st k b n d cs i u r lo hi a = (S.layout refl).is st k b u r lo hi a
   by_sum (suc m) l S st k b n d cs i u r lo hi a =
       rw (le-leb (suc m) 4294967295 (omega (arith, l))) ((S.components (ne_eqb (suc m) 0 (omega arith))).is st k b n d cs i u r lo hi a)

@@ -35,8 +35,8 @@ decreases-supports_past_tests l = together l.ty l.s.now l.q + 2
 
 abbrev pub invariant-any_component_supports-loop-component : goal.invariant-any_component_supports-loop-component
 invariant-any_component_supports-loop-component l = record {
-  asked : AskedFrom l.table l.ty l.at l.initial.s l.q l.end l.from;
-  turned : Turned l.table l.initial.s l.s l.initial.cached l.cached;
+  asked : AskedFrom l.setting l.ty l.at l.initial.s l.q l.end l.from;
+  turned : Turned l.setting l.initial.s l.s l.initial.cached l.cached;
 }
 
 abbrev pub decreases-any_component_supports-loop-component : goal.decreases-any_component_supports-loop-component
@@ -45,8 +45,8 @@ decreases-any_component_supports-loop-component l = 18446744073709551616 - l.fro
 abbrev pub invariant-entries_supported-loop-e : goal.invariant-entries_supported-loop-e
 invariant-entries_supported-loop-e l = record {
   linked : Linked l.initial.s l.q l.e;
-  walked : Walked l.table l.ty l.at l.initial.s l.q l.e;
-  turned : Turned l.table l.initial.s l.s l.initial.cached l.cached;
+  walked : Walked l.setting l.ty l.at l.initial.s l.q l.e;
+  turned : Turned l.setting l.initial.s l.s l.initial.cached l.cached;
 }
 
 abbrev pub decreases-entries_supported-loop-e : goal.decreases-entries_supported-loop-e

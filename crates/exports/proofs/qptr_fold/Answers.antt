@@ -1,9 +1,0 @@
--- `qptr_fold` meets its contract. The check finds this alone; written out, a wrong answer fails soon.
-use Rattle.exports.proofs.Leaving.{left, kept}
-use Rattle.exports.proofs.qptr_fold.Goals as goal
-
-pub returns-clause-leaves : goal.returns-clause-leaves
-returns-clause-leaves c = left c.numbers.ensures c.from.ensures c.fold.ensures.gives
-
-pub returns-clause-leaves_promised : goal.returns-clause-leaves_promised
-returns-clause-leaves_promised c = kept c.numbers.ensures c.from.ensures c.fold.ensures.promised

@@ -1,6 +1,0 @@
--- `qptr_supports` meets its contract. The check finds this alone; written out, a wrong answer fails soon.
-use Rattle.exports.proofs.Leaving.{told}
-use Rattle.exports.proofs.qptr_supports.Goals as goal
-
-pub returns : goal.returns
-returns c = told c.numbers.ensures c.from.ensures c.supports.ensures
