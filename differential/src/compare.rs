@@ -2,11 +2,13 @@
 
 use crate::generate::{Calls, Source};
 use crate::notation::report_commands;
+use crate::reading::Reading;
 use crate::reading::faults::Faults;
 use crate::reading::sound::is_sound;
 use crate::reading::streams::{read_list, read_memory};
+use crate::reference::Reference;
 use crate::shrink::shrink;
-use crate::side::{Answer, Call, CallKind, Side};
+use crate::side::{Answer, Call, CallKind, Choices, Side};
 use crate::usage::Usage;
 use std::fmt;
 
@@ -15,6 +17,18 @@ use std::fmt;
 pub struct Category {
     pub kind: CallKind,
     pub source: Source,
+    pub choices: Choices,
+}
+
+impl fmt::Display for Category {
+    fn fmt(&self, f: &mut fmt::Formatter<'_>) -> fmt::Result {
+        let Category { kind, source, choices } = self;
+        write!(f, "{kind:<8} {source:<8}")?;
+        match choices.number() {
+            0 => Ok(()),
+            number => write!(f, " choices {number}:"),
+        }
+    }
 }
 
 /// A call that two sides answer differently.
@@ -44,6 +58,8 @@ pub struct Tally {
     pub pairings: u64,
     /// Occurrences of each command of the report, 30 to 38.
     pub conflicts: [u64; 9],
+    /// Calls that would be answered otherwise with the default choices.
+    pub by_choice: u64,
 }
 
 impl Tally {
@@ -82,6 +98,10 @@ impl fmt::Display for Tally {
         if self.conflicts.iter().any(|count| *count > 0) {
             write!(f, "; reports {}", counts(0x30, &self.conflicts, true))?;
         }
+        if self.by_choice > 0 {
+            let share = 100.0 * self.by_choice as f64 / self.calls as f64;
+            write!(f, "; by the choice {} ({share:.1} in 100)", self.by_choice)?;
+        }
         Ok(())
     }
 }
@@ -102,7 +122,7 @@ pub fn compare_one(sides: [&dyn Side; 2], call: &Call) -> Result<Answer, Box<Dif
     Err(Box::new(Difference { call, answers }))
 }
 
-/// Puts so many generated calls of a category to both sides.
+/// Puts generated calls of a category to both sides: its source's share of so many.
 pub fn compare(
     sides: [&dyn Side; 2],
     category: Category,
@@ -110,22 +130,44 @@ pub fn compare(
     seed: u64,
 ) -> Result<Tally, Box<Difference>> {
     let mut tally = Tally::default();
-    for call in Calls::new(category.kind, category.source, seed).take(count) {
+    let Category { kind, source, choices } = category;
+    let count = source.share(count);
+    for call in Calls::new(kind, source, seed).with(choices).take(count) {
         let answer = compare_one(sides, &call)?;
-        if category.kind == CallKind::Fold && category.source == Source::Sound {
+        if kind == CallKind::Fold && source.is_sound() {
             check_promise(&call, &answer);
         }
         tally.add(&answer);
+        tally.by_choice += u64::from(choices_show(&call, &answer));
     }
     Ok(tally)
 }
 
-/// What document 01 promises of a fold over sound nodes: never 8 or 9; the answer is sound, and its
-/// pairings are at most M(M − 1)/2.
+/// Who says what is right under these choices: the Rust, or the reading where the Rust has none such.
+pub fn judge(choices: Choices) -> &'static dyn Side {
+    if Reference.knows(choices) { &Reference } else { &Reading::FAULTLESS }
+}
+
+/// Puts a call to those of both sides that know its choices, one at least; compared where both do.
+pub fn agreed(sides: [&dyn Side; 2], call: &Call) -> Result<Answer, Box<Difference>> {
+    match sides.map(|side| side.knows(call.choices)) {
+        [true, true] => compare_one(sides, call),
+        [one_knows, _] => Ok(sides[usize::from(!one_knows)].answer(call)),
+    }
+}
+
+/// Whether the call would be answered otherwise with the default choices.
+pub fn choices_show(call: &Call, answer: &Answer) -> bool {
+    let default = Choices::default();
+    call.choices != default && Reading::FAULTLESS.answer(&call.clone().with(default)) != *answer
+}
+
+/// What document 01 promises of a fold over sound nodes, and document 02 under all choices: never 8
+/// or 9; the answer is sound, and its pairings are at most M(M − 1)/2.
 ///
 /// # Panics
 /// If the promise is broken, which would be a finding about document 01 itself.
-fn check_promise(call: &Call, answer: &Answer) {
+pub fn check_promise(call: &Call, answer: &Answer) {
     assert!(!matches!(answer.number, 8 | 9), "a fold of sound nodes is refused:\n{call}");
     if answer.number != 0 {
         return;

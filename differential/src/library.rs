@@ -3,6 +3,7 @@
 use crate::side::{Answer, Call, CallKind, Side};
 use std::hint::black_box;
 use std::time::{Duration, Instant};
+use usage_merger::Choices;
 use usage_merger::calls::{self, Buffers, Setting};
 
 /// The static library.
@@ -42,11 +43,12 @@ pub fn time(call: &Call, times: u32, start: usize) -> Duration {
 
 fn ask(call: &Call, Lent { work, start, output, report }: &mut Lent) -> calls::Answer {
     let Call { table, ty, offset, first, second, .. } = call;
-    let setting = Setting { table, work: &mut work[*start..] };
+    let choices = choices_of(call);
+    let setting = Setting { table, work: &mut work[*start..], choices };
     let buffers = Buffers { output, report };
     match call.kind {
         CallKind::Receiver => calls::Answer {
-            number: u64::from(calls::receiver(first, second)),
+            number: u64::from(calls::receiver(choices, first, second)),
             yes: 0,
             usage_length: 0,
             report_length: 0,
@@ -58,6 +60,11 @@ fn ask(call: &Call, Lent { work, start, output, report }: &mut Lent) -> calls::A
         CallKind::Fold => calls::fold(setting, first, buffers),
         CallKind::Sound => calls::sound(setting, first),
     }
+}
+
+/// The call's choices, as the bindings have them.
+fn choices_of(call: &Call) -> Choices {
+    Choices::of(call.choices.number())
 }
 
 /// What is lent to a call to be written.

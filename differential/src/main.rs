@@ -11,8 +11,8 @@ use differential::questions::{picture, worst};
 use differential::reading::Reading;
 use differential::record::{Recorded, check_coverage, from_bytes, recorded, to_bytes};
 use differential::reference::Reference;
-use differential::rows::{Row, bench, directed, limits, printed_example};
-use differential::side::{CallKind, Side};
+use differential::rows::{Row, bench, directed, limits, printed_example, ties};
+use differential::side::{CallKind, Choices, Side, all_choices, choices_numbered};
 use differential::theorems::{Theorems, small_calls};
 #[cfg(feature = "library")]
 use differential::{library::Library, part::Part};
@@ -26,7 +26,8 @@ rows                             all worked rows: document 01, reference and rea
 compare [options]                generated calls to two sides
   --sides reference,reading      two of reference, reading, library, part
   --calls supports,place,..      which calls (default: all)
-  --sources sound,unsound,..     which inputs (default: sound,unsound,large,deep,damaged)
+  --sources sound,unsound,..     which inputs (default: sound,unsound,large,deep,damaged; tied with other choices)
+  --choices 0                    with which choices: numbers such as 0,1, or all (the reference has 0 alone)
   --count 10000                  calls in each category (fewer large and deep ones)
   --seed 1
 record PATH                      write the recorded answers
@@ -135,7 +136,8 @@ fn search_worst(options: &[&str]) -> Ended {
 struct Options {
     sides: [&'static dyn Side; 2],
     calls: Option<Vec<CallKind>>,
-    sources: Vec<Source>,
+    sources: Option<Vec<Source>>,
+    choices: Vec<Choices>,
     count: usize,
     seed: u64,
 }
@@ -143,7 +145,8 @@ struct Options {
 impl Default for Options {
     fn default() -> Self {
         let sides: [&dyn Side; 2] = [&Reference, &READING];
-        Options { sides, calls: None, sources: Source::ALL.to_vec(), count: 10_000, seed: 1 }
+        let choices = vec![Choices::default()];
+        Options { sides, calls: None, sources: None, choices, count: 10_000, seed: 1 }
     }
 }
 
@@ -168,8 +171,9 @@ impl Options {
                     self.calls = Some(value.split(',').map(str::parse).collect::<Result<_, _>>()?)
                 }
                 "--sources" => {
-                    self.sources = value.split(',').map(source).collect::<Result<_, _>>()?
+                    self.sources = Some(value.split(',').map(source).collect::<Result<_, _>>()?)
                 }
+                "--choices" => self.choices = choices(value)?,
                 "--count" => self.count = number(value)?,
                 "--seed" => self.seed = number(value)? as u64,
                 _ => return Err(format!("no option is named {name}\n{USAGE}")),
@@ -190,8 +194,21 @@ impl Options {
         let asked = self.kinds().contains(&receiver) && self.sides.into_iter().any(is_library);
         let part = side("part").ok().filter(|_| asked)?;
         let sides = self.sides.map(|side| if is_library(side) { part } else { side });
-        let (calls, sources) = (Some(vec![receiver]), self.sources.clone());
-        Some(Options { sides, calls, sources, ..*self })
+        let (sources, choices) = (self.sources.clone(), self.choices.clone());
+        Some(Options { sides, calls: Some(vec![receiver]), sources, choices, ..*self })
+    }
+
+    /// What is compared, in order.
+    fn categories(&self) -> Vec<Category> {
+        let mut categories = Vec::new();
+        for &choices in &self.choices {
+            let sources = self.sources.clone().unwrap_or_else(|| Source::of(choices));
+            for kind in self.kinds().into_iter().filter(|kind| kind.takes(choices)) {
+                let of = |&source| Category { kind, source, choices };
+                categories.extend(sources.iter().map(of));
+            }
+        }
+        categories
     }
 }
 
@@ -214,22 +231,41 @@ fn source(name: &str) -> Result<Source, String> {
     found.ok_or_else(|| format!("no source is named {name}"))
 }
 
+fn choices(value: &str) -> Result<Vec<Choices>, String> {
+    if value == "all" {
+        return Ok(all_choices());
+    }
+    let named = |word: &str| {
+        let found = word.parse().ok().and_then(choices_numbered);
+        found.ok_or_else(|| format!("no choices have the number {word}"))
+    };
+    value.split(',').map(named).collect()
+}
+
 fn number(word: &str) -> Result<usize, String> {
     word.replace('_', "").parse().map_err(|_| format!("{word} is not a number"))
 }
 
 fn rows() -> Ended {
     let rows = [bench(), vec![printed_example()], directed(), limits()].concat();
-    let sides: [&dyn Side; 2] = [&Reference, &READING];
-    let broken_by = |row: &Row, side: &dyn Side| row.broken_by(side);
-    let mut broken: Vec<String> =
-        rows.iter().flat_map(|row| sides.map(|side| broken_by(row, side))).flatten().collect();
-    let differing = rows.iter().filter_map(|row| compare_one(sides, &row.call).err());
+    let with_choices = ties();
+    let both: [&dyn Side; 2] = [&Reference, &READING];
+    let mut broken: Vec<String> = rows.iter().flat_map(|row| broken_by(row, &both)).collect();
+    let differing = rows.iter().filter_map(|row| compare_one(both, &row.call).err());
     broken.extend(differing.map(|difference| difference.to_string()));
+    broken.extend(with_choices.iter().flat_map(|row| broken_by(row, &[&READING])));
     match broken.len() {
-        0 => Ok(format!("rows: {} worked rows hold for the reference and the reading", rows.len())),
+        0 => Ok(format!(
+            "rows: {} worked rows hold for the reference and the reading, {} with other choices for the reading",
+            rows.len(),
+            with_choices.len()
+        )),
         count => Err(format!("{}\n{count} rows are broken", broken.join("\n"))),
     }
+}
+
+fn broken_by(row: &Row, sides: &[&dyn Side]) -> Vec<String> {
+    sides.iter().filter_map(|side| row.broken_by(*side)).collect()
 }
 
 fn compare_sides(options: &Options) -> Ended {
@@ -238,19 +274,27 @@ fn compare_sides(options: &Options) -> Ended {
     }
     let start = Instant::now();
     let mut calls = 0;
-    for kind in options.kinds() {
-        for &source in &options.sources {
-            let category = Category { kind, source };
-            let count = source.share(options.count);
-            let tally = compare(options.sides, category, count, options.seed)
-                .map_err(|difference| format!("the sides differ: {difference}"))?;
-            println!("{kind:<8} {source:<8} {tally}");
-            calls += tally.calls;
-        }
+    let categories = options.categories();
+    for &category in &categories {
+        demand_known(options.sides, category.choices)?;
+        let tally = compare(options.sides, category, options.count, options.seed)
+            .map_err(|difference| format!("the sides differ: {difference}"))?;
+        println!("{category} {tally}");
+        calls += tally.calls;
+    }
+    if categories.is_empty() {
+        return Err("nothing is compared: no call that is named takes these choices".into());
     }
     let [one, other] = options.sides.map(|side| side.name());
     let seconds = start.elapsed().as_secs();
     Ok(format!("compare: {calls} calls, {one} against {other}, no difference, {seconds} s"))
+}
+
+fn demand_known(sides: [&dyn Side; 2], choices: Choices) -> Result<(), String> {
+    match sides.into_iter().find(|side| !side.knows(choices)) {
+        None => Ok(()),
+        Some(side) => Err(format!("{} has no choices {}", side.name(), choices.number())),
+    }
 }
 
 /// The recorded list, derived anew.
@@ -289,17 +333,25 @@ fn check_against(path: &str, list: &[Recorded]) -> Ended {
 fn replay(path: &str, name: &str, options: &Options) -> Ended {
     let side = side(name)?;
     let kinds = options.kinds();
-    let mut replayed = 0;
+    let (mut replayed, mut unknown) = (0, 0);
     for Recorded { call, answer } in
         read_recorded(path)?.iter().filter(|recorded| kinds.contains(&recorded.call.kind))
     {
+        if !side.knows(call.choices) {
+            unknown += 1;
+            continue;
+        }
         let told = side.answer(call);
         if told != *answer {
             return Err(format!("{call}\n  recorded is\n    {answer}\n  {name} says\n    {told}"));
         }
         replayed += 1;
     }
-    Ok(format!("replay: {replayed} recorded answers are what {name} says"))
+    let left_out = match unknown {
+        0 => String::new(),
+        count => format!("; {count} are left out, with choices that it does not have"),
+    };
+    Ok(format!("replay: {replayed} recorded answers are what {name} says{left_out}"))
 }
 
 /// The recorded calls and some generated ones as theorems. The seed is not the recorded list's, or

@@ -3,13 +3,14 @@
 //! U size; D size,type; S size,type (StrictlyTyped); O size[offset:node ..]; A size,stride,node; `*`
 //! is dynamic. Tops are `Opaque 3`, `Buffer U0`, `Memory U0`; a list is `List(U0 | D4,0)`. A table is
 //! `scalar 4; elements 16 (4, 0, 4); fields 8 {0:0 4:1}; handle; failed`, the operands of elements
-//! being stride, type and length, and `scalar 4+8` having the dynamic stride 8.
+//! being stride, type and length, and `scalar 4+8` having the dynamic stride 8. A call's choices stand
+//! behind its name where they are not the default.
 
 use crate::reading::faults::Faults;
 use crate::reading::report;
 use crate::reading::streams::{read_list, read_memory, read_top};
 use crate::reading::tables::read_table;
-use crate::side::{Answer, Buffer, Call, CallKind};
+use crate::side::{Answer, Buffer, Call, CallKind, Choices, Ties};
 use crate::usage::{Components, Entry, Field, Kind, Layout, Record, Size, Table, Top, Usage};
 use std::fmt::{self, Display, Formatter, Write};
 
@@ -90,6 +91,7 @@ impl Display for Call {
             CallKind::Place => write!(f, " at {}", self.offset)?,
             _ => {}
         }
+        not_default(self.choices).iter().try_for_each(|words| write!(f, ", {words}"))?;
         if kind != CallKind::Receiver {
             let table = read_table(&self.table, Faults::NONE);
             write!(f, "\n  table   {}", or_hex(table, &self.table))?;
@@ -117,6 +119,12 @@ impl Display for Call {
         }
         Ok(())
     }
+}
+
+/// The choices that are not the default, in words.
+fn not_default(choices: Choices) -> Vec<&'static str> {
+    let ties = (choices.ties == Ties::First).then_some("ties to the first");
+    [ties].into_iter().flatten().collect()
 }
 
 impl Display for Answer {

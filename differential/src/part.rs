@@ -4,7 +4,7 @@
 //! calls `receiver` and writes its part, a pointer and a length, where its caller says.
 
 use crate::library::Library;
-use crate::side::{Answer, Call, CallKind, Side};
+use crate::side::{Answer, Call, CallKind, Choices, Side};
 use std::ptr;
 
 /// The library, but of receiver the part.
@@ -17,9 +17,9 @@ impl Side for Part {
     }
 
     fn answer(&self, call: &Call) -> Answer {
-        let Call { kind, first, second, .. } = call;
+        let Call { kind, choices, first, second, .. } = call;
         match kind {
-            CallKind::Receiver => told(handed(first, second), first, second),
+            CallKind::Receiver => told(handed(*choices, first, second), first, second),
             _ => Library.answer(call),
         }
     }
@@ -43,11 +43,13 @@ pub fn told(part: *const [u8], first: &[u8], second: &[u8]) -> Answer {
 ///
 /// # Panics
 /// If nothing was handed over.
-pub fn handed(first: &[u8], second: &[u8]) -> *const [u8] {
+pub fn handed(choices: Choices, first: &[u8], second: &[u8]) -> *const [u8] {
     let mut part = Handed { bytes: UNSET.as_ptr(), length: UNSET.len() };
+    let (first, first_len) = (first.as_ptr(), first.len());
+    let (second, second_len) = (second.as_ptr(), second.len());
     // SAFETY: each pointer comes with the length of its slice, the part's too. The library keeps none.
     unsafe {
-        qptr_receiver_part(first.as_ptr(), first.len(), second.as_ptr(), second.len(), &mut part);
+        qptr_receiver_part(choices.number(), first, first_len, second, second_len, &mut part);
     }
     assert_ne!(part.bytes, UNSET.as_ptr(), "`receiver_part` writes the part");
     ptr::slice_from_raw_parts(part.bytes, part.length)
@@ -65,6 +67,7 @@ struct Handed {
 
 unsafe extern "C" {
     fn qptr_receiver_part(
+        choices: u32,
         first: *const u8,
         first_len: usize,
         second: *const u8,

@@ -23,7 +23,8 @@ pub fn run(words: &[&str]) -> Option<Ended> {
 }
 
 fn ratios() -> Ended {
-    println!("{}", bench::ratios());
+    println!("{}\n", bench::ratios());
+    println!("{}", bench::tie_rules());
     Ok(format!("bench: the least of {} runs on each side", bench::RUNS_OF_RATIOS))
 }
 

@@ -4,7 +4,6 @@ use crate::generate::{Calls, Source};
 use crate::reading::Reading;
 use crate::reading::faults::Fault;
 use crate::record::Recorded;
-use crate::reference::Reference;
 use crate::side::{CallKind, Side};
 
 /// How often a fault was noticed.
@@ -16,13 +15,13 @@ pub struct Noticed {
     pub generated: usize,
 }
 
-/// Generated calls of every category with the reference's answers.
+/// Generated calls of every category with the answers of who judges them.
 pub fn generated(each: usize, seed: u64) -> Vec<Recorded> {
     let mut list = Vec::new();
     for kind in CallKind::ALL {
         for source in Source::ALL.into_iter().filter(|source| *source != Source::Deep) {
-            let calls = Calls::new(kind, source, seed).take(source.share(each));
-            list.extend(calls.map(|call| Recorded::of(&Reference, call)));
+            let calls = Calls::new(kind, source, seed).by_turns().take(source.share(each));
+            list.extend(calls.map(Recorded::judged));
         }
     }
     list

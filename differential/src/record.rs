@@ -2,14 +2,15 @@
 //!
 //! README.md says how the file is laid out.
 
-use crate::compare::compare_one;
+use crate::compare::{agreed, choices_show, judge};
 use crate::generate::{Calls, Source};
 use crate::notation::report_commands;
 use crate::reading::bytes::{Reader, put_four};
 use crate::reading::calls::WORK_AREA;
 use crate::reading::report::{AT_NODE, CONFLICTS};
-use crate::rows::{bench, directed, limits, printed_example};
-use crate::side::{Answer, Buffer, Call, CallKind, Side};
+use crate::reading::{Reading, Refusal};
+use crate::rows::{Row, bench, directed, limits, printed_example, ties};
+use crate::side::{Answer, Buffer, Call, CallKind, Choices, Side, all_choices, choices_numbered};
 use std::collections::{HashMap, HashSet};
 
 /// The seed of the generated calls in the list.
@@ -36,37 +37,95 @@ impl Recorded {
     pub fn of(side: &dyn Side, call: Call) -> Recorded {
         Recorded { answer: side.answer(&call), call }
     }
+
+    /// A call with what is right.
+    pub fn judged(call: Call) -> Recorded {
+        Recorded::of(judge(call.choices), call)
+    }
 }
 
-/// The fixed list: all worked rows, then generated calls of every category.
+/// The fixed list: all worked rows, then generated calls of every category; and the same once more for
+/// each of the other choices.
 pub fn recorded(reference: &dyn Side, reading: &dyn Side) -> Result<Vec<Recorded>, String> {
-    let mut list = Vec::new();
-    let answered = |call: Call| -> Result<Recorded, String> {
-        let answer = compare_one([reference, reading], &call).map_err(|d| d.to_string())?;
-        Ok(Recorded { call, answer })
-    };
-    let rows = [bench(), vec![printed_example()], directed(), limits()].concat();
-    for row in rows {
-        if let Some(words) = row.broken_by(reference) {
-            return Err(words);
-        }
-        list.push(answered(row.call)?);
-    }
+    let mut list = List { sides: [reference, reading], calls: Vec::new() };
+    list.add_rows([bench(), vec![printed_example()], directed(), limits()].concat())?;
     for kind in CallKind::ALL {
         for (source, wanted) in wanted(kind) {
-            let mut variety = Variety::default();
-            let calls = Calls::new(kind, source, SEED);
-            let mut found = 0;
-            for call in calls.take(wanted * 200) {
-                let recorded = answered(call)?;
-                if found < wanted && variety.is_new_enough(&recorded) {
-                    found += 1;
-                    list.push(recorded);
-                }
-            }
+            let calls = Calls::new(kind, source, SEED).take(wanted * 200);
+            list.add_various(calls, wanted, Variety::new(Looks::closely, 40))?;
         }
     }
-    Ok(list)
+    list.add_rows(ties())?;
+    for choices in all_choices().split_off(1) {
+        list.add_with(choices)?;
+    }
+    Ok(list.calls)
+}
+
+/// The list as far as it is made.
+struct List<'a> {
+    sides: [&'a dyn Side; 2],
+    calls: Vec<Recorded>,
+}
+
+impl List<'_> {
+    fn answered(&self, call: Call) -> Result<Recorded, String> {
+        let answer = agreed(self.sides, &call).map_err(|d| d.to_string())?;
+        Ok(Recorded { call, answer })
+    }
+
+    fn add_rows(&mut self, rows: Vec<Row>) -> Result<(), String> {
+        for row in rows {
+            if let Some(words) = row.broken_by(judge(row.call.choices)) {
+                return Err(words);
+            }
+            self.calls.push(self.answered(row.call)?);
+        }
+        Ok(())
+    }
+
+    /// Adds at most so many of these calls. All of them are answered.
+    fn add_various(
+        &mut self,
+        calls: impl Iterator<Item = Call>,
+        wanted: usize,
+        mut variety: Variety,
+    ) -> Result<(), String> {
+        let mut found = 0;
+        for call in calls {
+            let recorded = self.answered(call)?;
+            if found < wanted && variety.is_new_enough(&recorded) {
+                found += 1;
+                self.calls.push(recorded);
+            }
+        }
+        Ok(())
+    }
+
+    /// Adds generated calls with these choices: each end and each conflict from every source, and so
+    /// again where the choices show.
+    fn add_with(&mut self, choices: Choices) -> Result<(), String> {
+        for kind in CallKind::ALL.into_iter().filter(|kind| kind.takes(choices)) {
+            let generated = |source| Calls::new(kind, source, SEED).with(choices);
+            for source in [Source::Sound, Source::Unsound, Source::Damaged, Source::Tied] {
+                let calls = generated(source).filter(is_small).take(5_000);
+                self.add_various(calls, usize::MAX, Variety::new(Looks::roughly, 1))?;
+            }
+            let large = generated(Source::Large).take(50).filter(is_telling);
+            self.add_various(large, 2, Variety::new(Looks::roughly, 1))?;
+        }
+        Ok(())
+    }
+}
+
+fn is_small(call: &Call) -> bool {
+    call.first.len() + call.second.len() + call.table.len() < 600
+}
+
+/// Whether a large call has too many nodes, or its choices show.
+fn is_telling(call: &Call) -> bool {
+    let answer = Reading::FAULTLESS.answer(call);
+    answer.number == Refusal::TooManyNodes.number() || choices_show(call, &answer)
 }
 
 /// How many generated calls of a kind are taken from each source.
@@ -88,23 +147,60 @@ fn wanted(kind: CallKind) -> [(Source, usize); 4] {
     ]
 }
 
-/// Takes only a few calls that look alike from outside, so that the list shows many things.
-#[derive(Default)]
-struct Variety(HashMap<(u64, u64, Vec<u8>, u64), usize>);
+/// How a call looks from outside.
+#[derive(PartialEq, Eq, Hash)]
+struct Looks {
+    number: u64,
+    yes: u64,
+    /// The first commands of the report.
+    commands: Vec<u8>,
+    /// Up to a few.
+    pairings: u64,
+    choices_show: bool,
+}
+
+impl Looks {
+    fn closely(recorded: &Recorded) -> Looks {
+        Looks::of(recorded, 4, 6)
+    }
+
+    fn roughly(recorded: &Recorded) -> Looks {
+        Looks::of(recorded, 1, 0)
+    }
+
+    fn of(Recorded { call, answer }: &Recorded, commands: usize, pairings: u64) -> Looks {
+        let met = report_commands(answer.conflicts()).into_iter().map(|(command, _)| command);
+        Looks {
+            number: answer.number,
+            yes: answer.yes,
+            commands: met.take(commands).collect(),
+            pairings: answer.pairings.min(pairings),
+            choices_show: choices_show(call, answer),
+        }
+    }
+}
+
+/// Takes only so many calls that look alike, so that the list shows many things.
+struct Variety {
+    looks: fn(&Recorded) -> Looks,
+    most: usize,
+    seen: HashMap<Looks, usize>,
+}
 
 impl Variety {
+    fn new(looks: fn(&Recorded) -> Looks, most: usize) -> Variety {
+        Variety { looks, most, seen: HashMap::new() }
+    }
+
     fn is_new_enough(&mut self, recorded: &Recorded) -> bool {
-        let Recorded { call, answer } = recorded;
-        let small = call.first.len() + call.second.len() + call.table.len() < 600;
+        let call = &recorded.call;
         let large = call.first.len() + call.second.len() > 2_500;
-        if !small && !large {
+        if !is_small(call) && !large {
             return false;
         }
-        let commands = report_commands(answer.conflicts()).into_iter().map(|(command, _)| command);
-        let looks = (answer.number, answer.yes, commands.take(4).collect(), answer.pairings.min(6));
-        let seen = self.0.entry(looks).or_default();
+        let seen = self.seen.entry((self.looks)(recorded)).or_default();
         *seen += 1;
-        *seen <= 40
+        *seen <= self.most
     }
 }
 
@@ -119,26 +215,45 @@ fn numbers(kind: CallKind) -> &'static [u64] {
     }
 }
 
-/// What the list must show: every end of every call, yes and no, every conflict.
+/// What the list must show, with all choices: every end of every call, yes and no, every conflict,
+/// and the choices.
 pub fn check_coverage(list: &[Recorded]) -> Result<(), String> {
-    for kind in CallKind::ALL {
-        let answers = || list.iter().filter(|one| one.call.kind == kind).map(|one| &one.answer);
-        for number in numbers(kind) {
-            if !answers().any(|answer| answer.number == *number) {
-                return Err(format!("no recorded {kind} ends with {number}"));
-            }
+    for choices in all_choices() {
+        let made: Vec<_> = list.iter().filter(|one| one.call.choices == choices).collect();
+        let named = |words: String| format!("with choices {}: {words}", choices.number());
+        for kind in CallKind::ALL.into_iter().filter(|kind| kind.takes(choices)) {
+            check_ends(kind, &made).map_err(named)?;
         }
-        let asks = matches!(kind, CallKind::Supports | CallKind::Sound);
-        if asks && !(answers().any(|answer| answer.yes == 1)) {
-            return Err(format!("no recorded {kind} says yes"));
+        check_conflicts(&made).map_err(named)?;
+        let shown = made.iter().any(|one| choices_show(&one.call, &one.answer));
+        if choices != Choices::default() && !shown {
+            return Err(named("no recorded answer is another one for them".into()));
         }
-    }
-    let conflicts = list.iter().flat_map(|one| report_commands(one.answer.conflicts()));
-    let met: HashSet<u8> = conflicts.map(|(command, _)| command).collect();
-    if let Some(command) = (CONFLICTS..=AT_NODE).find(|command| !met.contains(command)) {
-        return Err(format!("no recorded call reports {command:x}"));
     }
     check_limits(list)
+}
+
+fn check_ends(kind: CallKind, list: &[&Recorded]) -> Result<(), String> {
+    let answers = || list.iter().filter(|one| one.call.kind == kind).map(|one| &one.answer);
+    for number in numbers(kind) {
+        if !answers().any(|answer| answer.number == *number) {
+            return Err(format!("no recorded {kind} ends with {number}"));
+        }
+    }
+    let asks = matches!(kind, CallKind::Supports | CallKind::Sound);
+    if asks && !(answers().any(|answer| answer.yes == 1)) {
+        return Err(format!("no recorded {kind} says yes"));
+    }
+    Ok(())
+}
+
+fn check_conflicts(list: &[&Recorded]) -> Result<(), String> {
+    let conflicts = list.iter().flat_map(|one| report_commands(one.answer.conflicts()));
+    let met: HashSet<u8> = conflicts.map(|(command, _)| command).collect();
+    match (CONFLICTS..=AT_NODE).find(|command| !met.contains(command)) {
+        Some(command) => Err(format!("no recorded call reports {command:x}")),
+        None => Ok(()),
+    }
 }
 
 /// Lengths that a reader with fixed buffers may rely on.
@@ -174,6 +289,7 @@ fn record_bytes(Recorded { call, answer }: &Recorded) -> Vec<u8> {
     put(&mut bytes, call.work);
     put(&mut bytes, call.ty as usize);
     put(&mut bytes, call.offset as usize);
+    put(&mut bytes, call.choices.number() as usize);
     for block in [&call.table, &call.first, &call.second] {
         put(&mut bytes, block.len());
         bytes.extend(block);
@@ -212,12 +328,14 @@ pub fn from_bytes(bytes: &[u8]) -> Option<Vec<Recorded>> {
 }
 
 fn record_from(record: &mut Reader<'_>) -> Option<Recorded> {
-    let kind = record.byte()?;
+    let number = record.byte()?;
+    let kind = CallKind::ALL.into_iter().find(|known| *known as u8 == number)?;
     let call = Call {
-        kind: CallKind::ALL.into_iter().find(|known| *known as u8 == kind)?,
+        kind,
         work: record.four()? as usize,
         ty: record.four()?,
         offset: record.four()?,
+        choices: choices_numbered(record.four()?).filter(|choices| kind.takes(*choices))?,
         table: block(record)?.to_vec(),
         first: block(record)?.to_vec(),
         second: block(record)?.to_vec(),

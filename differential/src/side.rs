@@ -3,6 +3,22 @@
 use std::fmt;
 use std::str::FromStr;
 
+#[path = "../../bindings/rust/src/choices.rs"]
+mod choices;
+
+pub use choices::{Choices, Ties};
+
+/// All choices that there are, the default first: the numbers up to the first that has a bit no
+/// choice has.
+pub fn all_choices() -> Vec<Choices> {
+    (0..).map_while(choices_numbered).collect()
+}
+
+/// The choices with this number; `None` if it has a bit that no choice has.
+pub fn choices_numbered(number: u32) -> Option<Choices> {
+    Some(Choices::of(number)).filter(|choices| choices.number() == number)
+}
+
 /// Which of the six calls. The discriminant is the byte of the recorded file.
 #[derive(Clone, Copy, Debug, PartialEq, Eq)]
 pub enum CallKind {
@@ -42,6 +58,16 @@ impl CallKind {
 
     pub fn takes_second(self) -> bool {
         matches!(self, CallKind::Receiver | CallKind::Place | CallKind::Merge)
+    }
+
+    /// Soundness alone is not a matter of choice.
+    pub fn takes_choices(self) -> bool {
+        self != CallKind::Sound
+    }
+
+    /// Whether a call can be made with these choices. One that takes none is made with the default.
+    pub fn takes(self, choices: Choices) -> bool {
+        self.takes_choices() || choices == Choices::default()
     }
 }
 
@@ -92,6 +118,7 @@ impl Buffer {
 #[derive(Clone, Debug, PartialEq, Eq)]
 pub struct Call {
     pub kind: CallKind,
+    pub choices: Choices,
     pub table: Vec<u8>,
     pub work: usize,
     pub ty: u32,
@@ -100,6 +127,14 @@ pub struct Call {
     pub second: Vec<u8>,
     pub output: Buffer,
     pub report: Buffer,
+}
+
+impl Call {
+    /// The same call with these choices, if it takes any.
+    pub fn with(self, choices: Choices) -> Call {
+        let choices = if self.kind.takes(choices) { choices } else { Choices::default() };
+        Call { choices, ..self }
+    }
 }
 
 /// All that a call gives back. For receiver the number is 0 for an empty part, 1 for the first
@@ -138,6 +173,11 @@ fn front(bytes: &[u8], length: u64) -> &[u8] {
 /// Somebody who answers calls.
 pub trait Side {
     fn name(&self) -> String;
+
+    /// Whether it can be asked with these choices.
+    fn knows(&self, _choices: Choices) -> bool {
+        true
+    }
 
     fn answer(&self, call: &Call) -> Answer;
 }

@@ -6,8 +6,7 @@
 use crate::generate::{Calls, Source};
 use crate::notation::with_last_run;
 use crate::record::Recorded;
-use crate::reference::Reference;
-use crate::side::{Answer, Buffer, Call, CallKind};
+use crate::side::{Answer, Buffer, Call, CallKind, Choices};
 use std::path::Path;
 use std::{fs, io};
 
@@ -25,12 +24,14 @@ const SOURCES: [Source; 3] = [Source::Sound, Source::Unsound, Source::Damaged];
 
 /// What each file of theorems begins with.
 const HEADER: &str = "\
--- Calls with their answers: the definitions compute what the Rust says. Written by a program.
+-- Calls with their answers, the Rust's or, under choices that it does not have, the independent reading's: the definitions compute
+-- them. Written by a program.
 use Rattle.std.specs.Prelude.{◌≡◌, refl, ℕ, Bool, true, false, List, [], ◌∷◌, ◌++◌, replicate}
 use Rattle.definitions.specs.If.{when◌then◌else◌}
 use Rattle.definitions.specs.Command.{command_at}
 use Rattle.definitions.specs.Stream.{read_node, read_node_in, top_of, memory_of, list_of}
 use Rattle.definitions.specs.Table.{table_of}
+use Rattle.definitions.specs.Requests.Choices.{choices_of}
 use Rattle.definitions.specs.Support.{supports, supports_in}
 use Rattle.definitions.specs.Place.{place, place_in, merge_mem, fold}
 use Rattle.definitions.specs.Calls.{Answer, Written, part_of, receiver_of, receiver_call, supports_call, place_call, merge_call, fold_call, sound_call}
@@ -79,7 +80,8 @@ impl Theorems {
         }
         fs::write(folder.join("src/lib.rt"), "// Theorems alone, in specs/.\n#![tactic(auto)]\n")?;
         fs::write(folder.join("proofs/Lib.antt"), "-- `refl` proves all of specs/.\n")?;
-        let mut modules = String::from("-- What the Rust says of the definitions.\n");
+        let mut modules =
+            String::from("-- What the Rust and the reading say of the definitions.\n");
         for (index, texts) in self.texts.chunks(ROWS_IN_FILE).enumerate() {
             modules += &format!("pub mod Rows{index}\n");
             let text = format!("{HEADER}\n{}", texts.join("\n"));
@@ -89,17 +91,17 @@ impl Theorems {
     }
 }
 
-/// So many generated calls in all, each small enough, with the reference's answers. Every call and
-/// every source has its share.
+/// So many generated calls in all, each small enough, with the answers of who judges them. Every
+/// call and every source has its share.
 pub fn small_calls(count: usize, seed: u64) -> Vec<Recorded> {
     let sources = |kind| SOURCES.map(|source| (kind, source));
     let categories: Vec<_> = CallKind::ALL.into_iter().flat_map(sources).collect();
     let calls = |(index, &(kind, source)): (usize, &(CallKind, Source))| {
         let share = (count + index) / categories.len();
-        Calls::new(kind, source, seed).filter(is_small).take(share)
+        Calls::new(kind, source, seed).by_turns().filter(is_small).take(share)
     };
     let calls = categories.iter().enumerate().flat_map(calls);
-    calls.map(|call| Recorded::of(&Reference, call)).collect()
+    calls.map(Recorded::judged).collect()
 }
 
 /// Whether the prover can be asked to compute the call.
@@ -118,16 +120,20 @@ fn theorem(name: &str, recorded: &Recorded) -> String {
 
 /// The definition's result on one side, the recorded one on the other.
 fn equation(Recorded { call, answer }: &Recorded) -> String {
-    let Call { kind, work, ty, offset, output, report, .. } = *call;
+    let Call { kind, choices, work, ty, offset, output, report, .. } = *call;
     let [table, first, second] = [&call.table, &call.first, &call.second].map(|part| list(part));
+    let setting = match kind.takes_choices() {
+        true => format!("{} {table} {work}", chosen(choices)),
+        false => format!("{table} {work}"),
+    };
     let buffers = format!("{} {}", filled(output), report.length);
     let given = match kind {
-        CallKind::Receiver => return receiver_equation(&first, &second, answer.number),
-        CallKind::Supports => format!("{table} {work} {ty} {offset} {first}"),
-        CallKind::Place => format!("{table} {work} {first} {offset} {second} {buffers}"),
-        CallKind::Merge => format!("{table} {work} {first} {second} {buffers}"),
-        CallKind::Fold => format!("{table} {work} {first} {buffers}"),
-        CallKind::Sound => format!("{table} {work} {first}"),
+        CallKind::Receiver => return receiver_equation(choices, &first, &second, answer.number),
+        CallKind::Supports => format!("{setting} {ty} {offset} {first}"),
+        CallKind::Place => format!("{setting} {first} {offset} {second} {buffers}"),
+        CallKind::Merge => format!("{setting} {first} {second} {buffers}"),
+        CallKind::Fold => format!("{setting} {first} {buffers}"),
+        CallKind::Sound => format!("{setting} {first}"),
     };
     let (result, told) = match kind.writes() {
         true => ("Written", written(answer)),
@@ -137,7 +143,7 @@ fn equation(Recorded { call, answer }: &Recorded) -> String {
 }
 
 /// The receiving stream, and which of the two it is: they may have the same bytes.
-fn receiver_equation(first: &str, second: &str, number: u64) -> String {
+fn receiver_equation(choices: Choices, first: &str, second: &str, number: u64) -> String {
     let [empty, one, two] = [&[][..], &[1], &[2]].map(list);
     let (part, which) = match number {
         1 => (first, &one),
@@ -145,10 +151,14 @@ fn receiver_equation(first: &str, second: &str, number: u64) -> String {
         _ => (empty.as_str(), &empty),
     };
     let told = format!("({part} ∷ {which} ∷ [])");
-    let streams = format!("{first} {second}");
+    let given = format!("{} {first} {second}", chosen(choices));
     format!(
-        "◌≡◌ {{A = List (List ℕ)}} (receiver_call {streams} ∷ part_of (receiver_of {streams}) {one} {two} ∷ []) {told}"
+        "◌≡◌ {{A = List (List ℕ)}} (receiver_call {given} ∷ part_of (receiver_of {given}) {one} {two} ∷ []) {told}"
     )
+}
+
+fn chosen(choices: Choices) -> String {
+    format!("(choices_of {})", choices.number())
 }
 
 /// The numbers of an answer.

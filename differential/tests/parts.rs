@@ -9,7 +9,7 @@ use differential::reading::streams::{read_top, write_top};
 use differential::reading::tables::{read_table, write_table};
 use differential::record::{Recorded, from_bytes, to_bytes};
 use differential::reference::Reference;
-use differential::side::{Call, CallKind};
+use differential::side::{Call, CallKind, Choices, all_choices};
 use differential::theorems::{Theorems, small_calls};
 use std::fs::{self, DirEntry};
 use std::{env, io, process};
@@ -33,8 +33,8 @@ fn notation_reads_what_it_writes() {
 
 #[test]
 fn recorded_file_is_read_back() {
-    let calls =
-        CallKind::ALL.into_iter().flat_map(|kind| Calls::new(kind, Source::Damaged, 3).take(50));
+    let of_kind = |kind| Calls::new(kind, Source::Damaged, 3).by_turns().take(50);
+    let calls = CallKind::ALL.into_iter().flat_map(of_kind);
     let answered = |call| Recorded::of(&Reading::FAULTLESS, call);
     let list: Vec<Recorded> = calls.map(answered).collect();
     let back = from_bytes(&to_bytes(&list)).expect("the file is well-formed");
@@ -46,7 +46,7 @@ fn recorded_file_is_read_back() {
 
 #[test]
 fn generated_calls_are_repeatable() {
-    for source in [Source::Sound, Source::Unsound, Source::Large, Source::Damaged] {
+    for source in Source::ALL.into_iter().filter(|source| *source != Source::Deep) {
         let calls = || Calls::new(CallKind::Place, source, 5).take(20).collect::<Vec<_>>();
         assert_eq!(calls(), calls());
     }
@@ -56,7 +56,8 @@ fn generated_calls_are_repeatable() {
 #[test]
 fn differences_are_shrunk() {
     let faulty = Reading::with(Fault::TieToFirst);
-    let category = Category { kind: CallKind::Fold, source: Source::Sound };
+    let choices = Choices::default();
+    let category = Category { kind: CallKind::Fold, source: Source::Sound, choices };
     let difference = compare([&Reference, &faulty], category, 10_000, 1).expect_err("a difference");
     let shown = difference.to_string();
     assert!(shown.contains("first   List(O0[] | U0)"), "{shown}");
@@ -85,6 +86,13 @@ fn every_small_call_is_a_theorem() {
     assert!(theorems.count() >= 400 && theorems.left_out() > 0);
     assert_eq!(specs.matches(" = refl\n").count(), theorems.count());
     assert_eq!(specs.matches("pub mod Rows").count(), theorems.count().div_ceil(150));
+    for call in ["receiver", "supports", "place", "merge", "fold"] {
+        for choices in all_choices() {
+            let given = format!("({call}_call (choices_of {}) (", choices.number());
+            assert!(specs.contains(&given), "{given}");
+        }
+    }
+    assert!(specs.contains("(sound_call (") && !specs.contains("(sound_call (choices_of"));
 }
 
 /// Streams with the same bytes are told apart.
@@ -97,6 +105,9 @@ fn theorems_say_which_stream_receives() {
     theorems.add("same", &recorded);
     let specs = specs_of(&theorems, "which_stream");
     assert_eq!(recorded[0].answer.number, 2);
-    assert!(specs.contains("same0 : ◌≡◌ {A = List (List ℕ)} (receiver_call (10 ∷ "), "{specs}");
+    assert!(
+        specs.contains("same0 : ◌≡◌ {A = List (List ℕ)} (receiver_call (choices_of 0) (10 ∷ "),
+        "{specs}"
+    );
     assert!(specs.contains(" ∷ []) ∷ (2 ∷ []) ∷ [])\nunfolding "), "{specs}");
 }

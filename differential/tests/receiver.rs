@@ -1,16 +1,16 @@
 //! The part that `receiver` hands back is told by its address and its length, so a wrong one is noticed.
 #![cfg(feature = "library")]
 
-use differential::compare::{Category, compare, compare_one};
+use differential::compare::{Category, compare, compare_one, judge};
 use differential::generate::{Calls, Source};
 use differential::part::{NEITHER, Part, handed, told};
 use differential::reference::Reference;
-use differential::rows::{directed, limits};
-use differential::side::{Answer, Call, CallKind, Side};
+use differential::rows::{directed, limits, ties};
+use differential::side::{Answer, Call, CallKind, Choices, Side, Ties};
 
 /// Generated calls with two equal streams.
-fn alike() -> Vec<Call> {
-    let calls = Calls::new(CallKind::Receiver, Source::Sound, 1).take(20_000);
+fn alike(choices: Choices) -> Vec<Call> {
+    let calls = Calls::new(CallKind::Receiver, Source::Sound, 1).with(choices).take(20_000);
     calls.filter(|call| call.first == call.second).collect()
 }
 
@@ -22,18 +22,18 @@ impl Side for Exchanged {
         "exchanged".into()
     }
 
-    fn answer(&self, Call { first, second, .. }: &Call) -> Answer {
-        told(handed(first, second), second, first)
+    fn answer(&self, Call { choices, first, second, .. }: &Call) -> Answer {
+        told(handed(*choices, first, second), second, first)
     }
 }
 
 #[test]
 fn worked_rows_hold_for_the_part() {
-    let rows = [directed(), limits()].concat();
+    let rows = [directed(), limits(), ties()].concat();
     let rows = rows.iter().filter(|row| row.call.kind == CallKind::Receiver);
     for row in rows {
         assert_eq!(row.broken_by(&Part), None);
-        if let Err(difference) = compare_one([&Reference, &Part], &row.call) {
+        if let Err(difference) = compare_one([judge(row.call.choices), &Part], &row.call) {
             panic!("{difference}");
         }
     }
@@ -41,16 +41,19 @@ fn worked_rows_hold_for_the_part() {
 
 #[test]
 fn equal_streams_are_told_apart() {
-    let calls = alike();
-    assert!(calls.len() > 1_000, "{} pairs", calls.len());
-    for call in calls {
-        assert_eq!((Part.answer(&call).number, Exchanged.answer(&call).number), (2, 1), "{call}");
+    for (ties, said) in [(Ties::Second, (2, 1)), (Ties::First, (1, 2))] {
+        let calls = alike(Choices::default().with_ties(ties));
+        assert!(calls.len() > 1_000, "{} pairs", calls.len());
+        for call in calls {
+            assert_eq!((Part.answer(&call).number, Exchanged.answer(&call).number), said, "{call}");
+        }
     }
 }
 
 #[test]
 fn exchanged_parts_are_noticed() {
-    let category = Category { kind: CallKind::Receiver, source: Source::Sound };
+    let choices = Choices::default();
+    let category = Category { kind: CallKind::Receiver, source: Source::Sound, choices };
     let difference = compare([&Reference, &Exchanged], category, 1_000, 1).expect_err("a swap");
     let said = |number| format!("says\n    number {number}, yes 0, pairings 0");
     let (one, other) = (said(2), said(1));
@@ -63,7 +66,7 @@ fn exchanged_parts_are_noticed() {
 /// A shorter part and a copy are neither stream.
 #[test]
 fn other_parts_are_neither() {
-    let Call { first, second, .. } = &alike()[0];
+    let Call { first, second, .. } = &alike(Choices::default())[0];
     let copy = second.clone();
     for part in [&first[..first.len() - 1], &second[1..], &copy] {
         assert_eq!(told(part, first, second).number, NEITHER);

@@ -1,10 +1,12 @@
 //! Document 01, the reference and the reading agree on all worked rows.
 
-use differential::compare::compare_one;
+use differential::compare::{choices_show, compare_one};
 use differential::notation::hex;
 use differential::reading::Reading;
 use differential::reference::Reference;
-use differential::rows::{Row, bench, directed, limits, printed_example};
+use differential::rows::{
+    Row, bench, decided_by_ties, directed, limits, printed_example, whatever_ties,
+};
 use differential::side::Side;
 
 const SIDES: [&dyn Side; 2] = [&Reference, &Reading::FAULTLESS];
@@ -34,6 +36,19 @@ fn printed_example_is_printed() {
         let (usage, report) = (hex(answer.usage()), hex(answer.conflicts()));
         let line = format!("{} {} {usage} {report}", answer.number, answer.pairings);
         assert_eq!(line, "0 2 0a02010800000002000000 30310000000032", "{}", side.name());
+    }
+}
+
+/// Rows with ties to the first: the reading alone has them. Whether another tie rule would change
+/// their answers is as it is said of them.
+#[test]
+fn rows_about_ties_hold() {
+    for (rows, decided) in [(decided_by_ties(), true), (whatever_ties(), false)] {
+        for row in rows {
+            assert_eq!(row.broken_by(&Reading::FAULTLESS), None);
+            let answer = Reading::FAULTLESS.answer(&row.call);
+            assert_eq!(choices_show(&row.call, &answer), decided, "{}", row.call);
+        }
     }
 }
 

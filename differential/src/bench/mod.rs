@@ -4,9 +4,11 @@ pub mod deep;
 mod runs;
 mod shapes;
 pub mod sized;
+mod ties;
 
 pub use runs::{RUNS, Times};
 pub use shapes::{leaf, nested_arrays, nested_maps};
+pub use ties::tie_rules;
 
 use crate::library::{Library, time};
 use crate::notation;
@@ -14,7 +16,7 @@ use crate::reading::calls::{MOST_NODES, WORK_AREA};
 use crate::reading::streams::{write_list, write_memory};
 use crate::reading::tables::write_table;
 use crate::reference::timing::{time_decode, time_fold, time_supports};
-use crate::side::{Buffer, Call, CallKind, Side};
+use crate::side::{Buffer, Call, CallKind, Choices, Side};
 use crate::usage::{Table, Usage};
 use runs::side_by_side;
 use sized::{Given, SHAPES};
@@ -155,11 +157,15 @@ pub fn compared(kind: CallKind, usages: &[Usage]) -> (u64, Times) {
     let call = merging_call(kind, &table, usages);
     let answer = Library.answer(&call);
     assert_eq!(answer.number, 0, "the call is answered");
-    let nodes: usize = usages.iter().map(Usage::nodes).sum();
-    let times = (RUN / (nodes + answer.pairings as usize)).max(1) as u32;
+    let times = calls_in_run(usages, answer.pairings);
     let list = write_list(usages);
     let ours = |start| time(&call, times, start);
     (answer.pairings, side_by_side(times, ours, || time_fold(&table, &list, times)))
+}
+
+fn calls_in_run(usages: &[Usage], pairings: u64) -> u32 {
+    let nodes: usize = usages.iter().map(Usage::nodes).sum();
+    (RUN / (nodes + pairings as usize)).max(1) as u32
 }
 
 /// The table of all merges and folds here.
@@ -184,6 +190,7 @@ pub fn merging_call(kind: CallKind, table: &Table, usages: &[Usage]) -> Call {
 pub fn sound(first: Vec<u8>) -> Call {
     Call {
         kind: CallKind::Sound,
+        choices: Choices::default(),
         table: write_table(&notation::table("scalar 4")),
         work: WORK_AREA,
         ty: 0,

@@ -45,16 +45,27 @@ pub fn side_by_side(
     ours: impl Fn(usize) -> Duration,
     reference: impl Fn() -> [Duration; 2],
 ) -> Times {
+    let ours = |start| [ours(start), Duration::ZERO];
+    let [[ours, _], [reference, alone]] = in_turns(times, [&ours, &|_| reference()]);
+    Times { ours, reference, alone: (alone > 0.0).then_some(alone) }
+}
+
+/// What a side's run takes, as one or two figures. It is told where in its buffer the work area starts.
+type Run<'a> = &'a dyn Fn(usize) -> [Duration; 2];
+
+/// The least of each side's runs, which take turns, as microseconds of one of so many calls.
+pub fn in_turns(times: u32, sides: [Run<'_>; 2]) -> [[f64; 2]; 2] {
     let mut places = Rng::new(RandomState::new().build_hasher().finish());
-    let mut least = [Duration::MAX; 3];
+    let mut least = [[Duration::MAX; 2]; 2];
     for _ in 0..RUNS {
         let (start, frames) = (APART * places.below(PLACES), places.below(FRAMES));
-        let own = deeper(frames, &|| ours(start));
-        let [whole, alone] = deeper(frames, &reference);
-        least = [least[0].min(own), least[1].min(whole), least[2].min(alone)];
+        for (least, side) in least.iter_mut().zip(sides) {
+            let [one, other] = deeper(frames, &|| side(start));
+            *least = [least[0].min(one), least[1].min(other)];
+        }
     }
-    let [ours, reference, alone] = least.map(|run| run.as_secs_f64() * 1e6 / f64::from(times));
-    Times { ours, reference, alone: (alone > 0.0).then_some(alone) }
+    let microseconds = |run: Duration| run.as_secs_f64() * 1e6 / f64::from(times);
+    least.map(|runs| runs.map(microseconds))
 }
 
 /// Runs something with so many frames more on the stack.

@@ -182,9 +182,9 @@ fn fixed(bytes: usize) -> Size {
 mod tests {
     use super::{SHAPES, Shape};
     use crate::bench::{merging_call, plain_table};
+    use crate::compare::judge;
     use crate::library::Library;
-    use crate::reference::Reference;
-    use crate::side::Side;
+    use crate::side::{Side, all_choices};
     use crate::usage::Usage;
 
     #[test]
@@ -194,8 +194,10 @@ mod tests {
                 let (_, usages) = given(nodes);
                 let made: usize = usages.iter().map(Usage::nodes).sum();
                 assert!((nodes * 15 / 16..=nodes).contains(&made), "{name}: {made} nodes");
-                let call = merging_call(kind, &plain_table(), &usages);
-                assert_eq!(Library.answer(&call), Reference.answer(&call), "{name}");
+                for choices in all_choices() {
+                    let call = merging_call(kind, &plain_table(), &usages).with(choices);
+                    assert_eq!(Library.answer(&call), judge(choices).answer(&call), "{name}");
+                }
             }
         }
     }

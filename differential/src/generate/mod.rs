@@ -15,7 +15,7 @@ use crate::reading::faults::Faults;
 use crate::reading::sound::is_sound;
 use crate::reading::streams::{LIST, MEMORY, write_list, write_memory, write_top};
 use crate::reading::tables::write_table;
-use crate::side::{Buffer, Call, CallKind, Side};
+use crate::side::{Buffer, Call, CallKind, Choices, Side, all_choices};
 use crate::usage::{Size, Table, Top, Usage};
 use std::cmp::Reverse;
 use std::fmt;
@@ -34,16 +34,36 @@ pub enum Source {
     Deep,
     /// Any of these, with damaged bytes.
     Damaged,
+    /// Accepted tables and sound usages that tie wherever they meet.
+    Tied,
 }
 
 impl Source {
-    pub const ALL: [Source; 5] =
-        [Source::Sound, Source::Unsound, Source::Large, Source::Deep, Source::Damaged];
+    pub const ALL: [Source; 6] = [
+        Source::Sound,
+        Source::Unsound,
+        Source::Large,
+        Source::Deep,
+        Source::Damaged,
+        Source::Tied,
+    ];
+
+    /// Where calls with these choices come from if nothing is said: ties are sought where something
+    /// is chosen.
+    pub fn of(choices: Choices) -> Vec<Source> {
+        let sought = |source: &Source| *source != Source::Tied || choices != Choices::default();
+        Source::ALL.into_iter().filter(sought).collect()
+    }
+
+    /// Whether all its usages are sound.
+    pub fn is_sound(self) -> bool {
+        matches!(self, Source::Sound | Source::Tied)
+    }
 
     /// How many calls a run of so many makes from this source: fewer where each one takes long.
     pub fn share(self, count: usize) -> usize {
         match self {
-            Source::Sound | Source::Unsound | Source::Damaged => count,
+            Source::Sound | Source::Unsound | Source::Damaged | Source::Tied => count,
             Source::Large => count.div_ceil(100),
             Source::Deep => count.div_ceil(50_000),
         }
@@ -58,6 +78,7 @@ impl fmt::Display for Source {
             Source::Large => "large",
             Source::Deep => "deep",
             Source::Damaged => "damaged",
+            Source::Tied => "tied",
         })
     }
 }
@@ -67,18 +88,35 @@ pub struct Calls {
     rng: Rng,
     kind: CallKind,
     source: Source,
+    choices: Choices,
 }
 
 impl Calls {
+    /// Calls with the default choices.
     pub fn new(kind: CallKind, source: Source, seed: u64) -> Calls {
         // Each category draws from numbers of its own.
         let category = (kind as u64) << 8 | source as u64;
-        Calls { rng: Rng::new(seed ^ category << 32), kind, source }
+        let choices = Choices::default();
+        Calls { rng: Rng::new(seed ^ category << 32), kind, source, choices }
+    }
+
+    /// The same inputs with these choices, if the calls take any.
+    pub fn with(self, choices: Choices) -> Calls {
+        Calls { choices, ..self }
+    }
+
+    /// The calls, every third of them with other choices than the default, each of those in turn.
+    pub fn by_turns(self) -> impl Iterator<Item = Call> {
+        let others = all_choices().split_off(1);
+        self.enumerate().map(move |(index, call)| match index % 3 {
+            2 => call.with(others[index / 3 % others.len()]),
+            _ => call,
+        })
     }
 
     fn call(&mut self) -> Call {
         let mut call = match self.source {
-            Source::Sound => self.small(true),
+            Source::Sound | Source::Tied => self.small(true),
             Source::Unsound => self.small(false),
             Source::Large => self.large(),
             Source::Deep => self.deep(),
@@ -90,6 +128,7 @@ impl Calls {
         if self.source == Source::Damaged {
             damage::damage(&mut self.rng, &mut call);
         }
+        let mut call = call.with(self.choices);
         self.set_lengths(&mut call);
         call
     }
@@ -106,6 +145,7 @@ impl Calls {
         let mut usages = vec![if sound { maker.sound() } else { maker.any() }];
         while usages.len() < count {
             let next = match maker.rng.below(4) {
+                _ if self.source == Source::Tied => maker.rival(&usages[0]),
                 0 | 1 => maker.kin(&usages[0]),
                 _ if sound => maker.sound(),
                 _ => maker.any(),
@@ -174,6 +214,7 @@ impl Calls {
         let buffer = Buffer::NONE;
         Call {
             kind: self.kind,
+            choices: Choices::default(),
             table: table_bytes,
             work: 0,
             ty,

@@ -54,27 +54,58 @@ impl Maker<'_> {
     /// A usage of the same shape with other leaves, other parts and some entries gone, so that two
     /// usages meet at many levels. What is made of a sound usage is sound.
     pub fn kin(&mut self, usage: &Usage) -> Usage {
-        let size = usage.size;
-        if self.rng.one_in(6) {
-            return self.sound_of(size, 2);
+        self.alike(usage, Self::kin_part)
+    }
+
+    /// A usage that ties with this one at every level where the two meet: the same with other types
+    /// and some entries gone. What is made of a sound usage is sound.
+    pub fn rival(&mut self, usage: &Usage) -> Usage {
+        self.alike(usage, Self::rival_part)
+    }
+
+    /// A usage of the same shape with some entries gone. What `other` has for a part stands in its
+    /// place.
+    fn alike(&mut self, usage: &Usage, other: fn(&mut Self, &Usage) -> Option<Usage>) -> Usage {
+        if let Some(part) = other(self, usage) {
+            return part;
         }
-        match &usage.kind {
-            Kind::Unused | Kind::Leaf { .. } if size == Size::Fixed(0) => Usage::UNUSED,
-            Kind::Unused | Kind::Leaf { .. } => self.leaf(size),
+        let kind = match &usage.kind {
             Kind::Map(entries) => {
                 let mut kept = Vec::new();
                 for Entry { offset, node } in entries {
                     if !self.rng.one_in(4) {
-                        kept.push(Entry { offset: *offset, node: self.kin(node) });
+                        kept.push(Entry { offset: *offset, node: self.alike(node, other) });
                     }
                 }
-                Usage { size, kind: Kind::Map(kept) }
+                Kind::Map(kept)
             }
             Kind::Array { stride, element } => {
-                let element = Box::new(self.kin(element));
-                Usage { size, kind: Kind::Array { stride: *stride, element } }
+                let element = Box::new(self.alike(element, other));
+                Kind::Array { stride: *stride, element }
             }
+            leaf => leaf.clone(),
+        };
+        Usage { size: usage.size, kind }
+    }
+
+    fn kin_part(&mut self, usage: &Usage) -> Option<Usage> {
+        let size = usage.size;
+        if self.rng.one_in(6) {
+            return Some(self.sound_of(size, 2));
         }
+        match usage.kind {
+            Kind::Unused | Kind::Leaf { .. } if size == Size::Fixed(0) => Some(Usage::UNUSED),
+            Kind::Unused | Kind::Leaf { .. } => Some(self.leaf(size)),
+            Kind::Map(_) | Kind::Array { .. } => None,
+        }
+    }
+
+    fn rival_part(&mut self, usage: &Usage) -> Option<Usage> {
+        let ty = usage.leaf_type()?;
+        let others: Vec<u32> = types(self.table).filter(|&other| other != ty).collect();
+        let ty = if others.is_empty() { ty } else { self.rng.pick(&others) };
+        let kind = Kind::Leaf { strict: self.rng.one_in(4), ty };
+        Some(Usage { size: usage.size, kind })
     }
 
     fn root_size(&mut self) -> Size {

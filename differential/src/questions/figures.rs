@@ -9,7 +9,7 @@ use crate::library::{Library, time};
 use crate::reading::calls::WORK_AREA;
 use crate::reading::streams::write_memory;
 use crate::reading::tables::write_table;
-use crate::side::{Buffer, Call, CallKind, Side};
+use crate::side::{Buffer, Call, CallKind, Choices, Side};
 use crate::usage::{Entry, Kind, Size, Usage};
 use std::time::Duration;
 
@@ -140,6 +140,7 @@ impl Row {
         let buffer = Buffer { length: first.len() + second.len() + 64, fill: 0 };
         Call {
             kind: self.kind,
+            choices: Choices::default(),
             table: write_table(table),
             work: WORK_AREA,
             ty: *ty,

@@ -16,7 +16,7 @@ use crate::reading::faults::Faults;
 use crate::reading::sound::is_sound;
 use crate::reading::streams::read_memory;
 use crate::reading::tables::{read_table, write_table};
-use crate::side::{Call, CallKind};
+use crate::side::{Call, CallKind, Choices};
 use std::iter::successors;
 
 const MOST: u64 = 50_000_000;
@@ -29,6 +29,11 @@ fn generated(source: Source, count: usize) -> Vec<Question> {
         Some(Question { table, ty: call.ty, at: call.offset, usage })
     };
     calls.filter_map(question).collect()
+}
+
+/// The layout test's answer as the reading has it.
+fn as_read(q: &Question) -> bool {
+    Reading::FAULTLESS.supports(Choices::default(), &q.table, q.ty, q.at, &q.usage)
 }
 
 fn plainly(q: &Question) -> Counted {
@@ -45,7 +50,7 @@ fn both_answer_as_the_reading_does() {
         let questions = generated(source, 20_000);
         assert!(questions.len() > 19_000);
         for q in questions {
-            let answer = Reading::FAULTLESS.supports(&q.table, q.ty, q.at, &q.usage);
+            let answer = as_read(&q);
             let (counted, asked) = (plainly(&q), ported(&q));
             assert_eq!([counted.yes, asked.yes], [answer; 2], "{q:?}");
             assert!(asked.questions as f64 <= counted.calls, "{q:?}");
@@ -63,8 +68,7 @@ fn they_do_so_on_what_the_search_makes_too() {
             change(&mut rng, &mut next);
             if STAGES[1].allow(&next) && among.has(&next) {
                 last = next;
-                let answer =
-                    Reading::FAULTLESS.supports(&last.table, last.ty, last.at, &last.usage);
+                let answer = as_read(&last);
                 assert_eq!([plainly(&last).yes, ported(&last).yes], [answer; 2], "{last:?}");
             }
         }

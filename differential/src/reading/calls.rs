@@ -8,7 +8,7 @@ use super::sound::is_sound;
 use super::streams::{read_list, read_memory, read_top, write_memory, write_top};
 use super::tables::read_table;
 use super::{Merged, Outcome, Receiver, Refusal};
-use crate::side::{Answer, Buffer, Call, CallKind};
+use crate::side::{Answer, Buffer, Call, CallKind, Choices};
 use crate::usage::{Table, Top, Usage};
 
 /// The work area that every call but receiver asks for.
@@ -19,11 +19,18 @@ pub const MOST_NODES: usize = 512;
 
 /// The half of the calls that the published Rust has too.
 pub trait Rules {
-    fn receiver(&self, first: &Usage, second: &Usage) -> Receiver;
-    fn supports(&self, table: &Table, ty: u32, offset: u32, usage: &Usage) -> bool;
-    fn place(&self, table: &Table, a: Usage, d: u32, b: Usage) -> Outcome<Usage>;
-    fn merge(&self, table: &Table, first: Top, second: Top) -> Outcome<Top>;
-    fn fold(&self, table: &Table, nodes: Vec<Usage>) -> Outcome<Usage>;
+    fn receiver(&self, choices: Choices, first: &Usage, second: &Usage) -> Receiver;
+    fn supports(
+        &self,
+        choices: Choices,
+        table: &Table,
+        ty: u32,
+        offset: u32,
+        usage: &Usage,
+    ) -> bool;
+    fn place(&self, choices: Choices, table: &Table, a: Usage, d: u32, b: Usage) -> Outcome<Usage>;
+    fn merge(&self, choices: Choices, table: &Table, first: Top, second: Top) -> Outcome<Top>;
+    fn fold(&self, choices: Choices, table: &Table, nodes: Vec<Usage>) -> Outcome<Usage>;
 }
 
 /// Answers a call with these rules.
@@ -90,12 +97,24 @@ impl Desk<'_> {
         self.faults.on(fault)
     }
 
+    /// The choices that the rules are asked with: the call's, but for a fault.
+    fn choices(&self) -> Choices {
+        let deaf = match self.call.kind {
+            CallKind::Receiver => Fault::TieNotByReceiver,
+            CallKind::Place => Fault::TieNotByPlace,
+            CallKind::Merge => Fault::TieNotByMerge,
+            CallKind::Fold => Fault::TieNotByFold,
+            CallKind::Supports | CallKind::Sound => return self.call.choices,
+        };
+        self.faults.heard(self.call.choices, deaf)
+    }
+
     /// The receiving stream, or an empty part exactly where 3, 4 or 7 would be met.
     fn receiver(&self, rules: &impl Rules) -> u64 {
         let Ok(inputs) = self.streams() else { return 0 };
         match &inputs {
             _ if self.on(Fault::ReceiverAlwaysEmpty) || self.too_many(&inputs) => 0,
-            Inputs::Two(first, second) => rules.receiver(first, second) as u64,
+            Inputs::Two(first, second) => rules.receiver(self.choices(), first, second) as u64,
             _ => unreachable!("receiver takes two streams"),
         }
     }
@@ -105,22 +124,25 @@ impl Desk<'_> {
         let Inputs::One(usage) = inputs else { unreachable!("these calls take one stream") };
         Ok(match self.call.kind {
             CallKind::Sound => is_sound(&usage, self.faults),
-            _ => rules.supports(&table, self.call.ty, self.call.offset, &usage),
+            _ => rules.supports(self.choices(), &table, self.call.ty, self.call.offset, &usage),
         })
     }
 
     /// The merge run to its end: 10 and 11 come after.
     fn merged(&self, rules: &impl Rules) -> Outcome<Vec<u8>> {
         let (table, inputs) = self.admitted()?;
+        let choices = self.choices();
         match inputs {
             Inputs::Two(first, second) => {
-                let placed = rules.place(&table, first, self.call.offset, second)?;
+                let placed = rules.place(choices, &table, first, self.call.offset, second)?;
                 Ok(placed.map(|usage| write_memory(&usage)))
             }
             Inputs::Tops(first, second) => {
-                Ok(rules.merge(&table, first, second)?.map(|top| write_top(&top)))
+                Ok(rules.merge(choices, &table, first, second)?.map(|top| write_top(&top)))
             }
-            Inputs::List(nodes) => Ok(rules.fold(&table, nodes)?.map(|usage| write_memory(&usage))),
+            Inputs::List(nodes) => {
+                Ok(rules.fold(choices, &table, nodes)?.map(|usage| write_memory(&usage)))
+            }
             Inputs::One(_) => unreachable!("merging calls take more than one usage"),
         }
     }

@@ -3,6 +3,8 @@
 //! They serve the power check alone: a comparison that does not notice one of them would not notice
 //! it in the port either. The first four are the slips that document 01 names.
 
+use crate::side::Choices;
+
 /// The fault that is switched on, if any.
 #[derive(Clone, Copy, Debug)]
 pub struct Faults(Option<Fault>);
@@ -16,6 +18,11 @@ impl Faults {
 
     pub fn on(self, fault: Fault) -> bool {
         self.0 == Some(fault)
+    }
+
+    /// The choices, or the default where the fault keeps one from hearing of them.
+    pub fn heard(self, choices: Choices, deaf: Fault) -> Choices {
+        if self.on(deaf) { Choices::default() } else { choices }
     }
 }
 
@@ -55,6 +62,15 @@ faults! {
     ReceiverMapAboveUnused: "a map is stricter than Unused",
     ReceiverDynamicSmallest: "dynamic is the smallest size",
 
+    TieNeverAsked: "the tie rule is never asked: the second receives",
+    TieAtRootAlone: "the tie rule is asked at the root alone",
+    TieTurnsStrictness: "under ties to the first, the less strict of two equal sizes receives",
+    TieAnyStrictness: "under ties to the first, equal sizes tie whatever their strictness",
+    TieNotByReceiver: "receiver goes by the default choices",
+    TieNotByPlace: "place goes by the default choices",
+    TieNotByMerge: "merge goes by the default choices",
+    TieNotByFold: "fold goes by the default choices",
+
     EightBeforeNine: "8 where d + b is past 32 bits",
     OutgrownKept: "the size assertion is left out",
     UnusedNotCounted: "placing an Unused counts no pairing",
@@ -76,6 +92,7 @@ faults! {
     Rule5AnyStrides: "arrays of unequal stride merge elements",
     Rule5AnyRest: "arrays of equal stride merge elements at any r",
     Rule5TellsOther: "35 tells b's stride",
+    Rule5ElementSecond: "rule 5 uses merge_mem(b, element)",
     Rule6SearchSumsAll: "the search sums entries that it never reaches",
     Rule6EndSaturates: "an entry's end past 32 bits is capped",
     Rule6NewSumSaturates: "d + b past 32 bits is capped in the search",
@@ -98,6 +115,7 @@ faults! {
     FoldCopies: "fold merges two nodes and copies",
     FoldStops: "fold stops at a conflict",
     FoldTellsLast: "38 tells the index of the node before",
+    FoldNextFirst: "fold uses merge_mem(next, last)",
 
     SupportsAlways: "every usage is supported",
     SupportsNever: "no usage is supported",

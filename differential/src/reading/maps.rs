@@ -124,9 +124,9 @@ impl Setting<'_> {
         } else if entry.offset > b.offset || self.on(Fault::Rule6EqualStartPlaces) {
             self.place(b.node, entry.offset - b.offset, entry.node)?
         } else if swapped {
-            self.merge_mem(entry.node, b.node)?
+            self.below().merge_mem(entry.node, b.node)?
         } else {
-            self.merge_mem(b.node, entry.node)?
+            self.below().merge_mem(b.node, entry.node)?
         };
         Ok(Entry { offset: lower, node: tally.take(joined, head) })
     }

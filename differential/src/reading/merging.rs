@@ -3,21 +3,39 @@
 use super::faults::{Fault, Faults};
 use super::report::{self, Tally, at_node};
 use super::{Merged, Outcome, Receiver, Setting};
+use crate::side::{Choices, Ties};
 use crate::usage::{Kind, Size, Top, Usage};
+use std::cmp::Ordering;
 
-/// The larger receives; equal sizes go by strictness; a full tie makes the second the receiver.
-pub fn receiver(first: &Usage, second: &Usage, faults: Faults) -> Receiver {
-    let by_size = |usage: &Usage| match usage.size {
+/// The larger receives; equal sizes go by strictness; on a full tie the second receives, or the
+/// first where that is chosen. The tie rule is asked here and nowhere else.
+pub fn receiver(choices: Choices, first: &Usage, second: &Usage, faults: Faults) -> Receiver {
+    let tie_to_first = ties_to_first(choices, faults);
+    let by_strictness = match strictness(first, faults).cmp(&strictness(second, faults)) {
+        order if tie_to_first && faults.on(Fault::TieTurnsStrictness) => order.reverse(),
+        _ if tie_to_first && faults.on(Fault::TieAnyStrictness) => Ordering::Equal,
+        order => order,
+    };
+    let by_size = size(first, faults).cmp(&size(second, faults));
+    match by_size.then(by_strictness) {
+        Ordering::Greater => Receiver::First,
+        Ordering::Equal if tie_to_first => Receiver::First,
+        Ordering::Equal | Ordering::Less => Receiver::Second,
+    }
+}
+
+fn ties_to_first(choices: Choices, faults: Faults) -> bool {
+    let asked = faults.heard(choices, Fault::TieNeverAsked);
+    asked.ties == Ties::First || faults.on(Fault::TieToFirst)
+}
+
+/// Dynamic is largest.
+fn size(usage: &Usage, faults: Faults) -> Option<Size> {
+    match usage.size {
         _ if faults.on(Fault::ReceiverSizeIgnored) => None,
         Size::Dynamic if faults.on(Fault::ReceiverDynamicSmallest) => None,
         size => Some(size),
-    };
-    let key = |usage: &Usage| (by_size(usage), strictness(usage, faults));
-    let first_receives = match faults.on(Fault::TieToFirst) {
-        true => key(first) >= key(second),
-        false => key(first) > key(second),
-    };
-    if first_receives { Receiver::First } else { Receiver::Second }
+    }
 }
 
 fn strictness(usage: &Usage, faults: Faults) -> u32 {
@@ -37,7 +55,7 @@ fn strictness(usage: &Usage, faults: Faults) -> u32 {
 impl Setting<'_> {
     /// `merge_mem`: the other is placed in the receiver at 0.
     pub fn merge_mem(&self, first: Usage, second: Usage) -> Outcome<Usage> {
-        match receiver(&first, &second, self.faults) {
+        match receiver(self.choices, &first, &second, self.faults) {
             Receiver::First => self.place(first, 0, second),
             Receiver::Second => self.place(second, 0, first),
         }
@@ -70,7 +88,10 @@ impl Setting<'_> {
             if stops || (self.on(Fault::FoldCopies) && index > 1) {
                 break;
             }
-            let merged = self.merge_mem(last, next)?;
+            let merged = match self.on(Fault::FoldNextFirst) {
+                true => self.merge_mem(next, last)?,
+                false => self.merge_mem(last, next)?,
+            };
             last = tally.take(merged, at_node(told));
         }
         let report = tally.conflicts.concat();

@@ -1,7 +1,8 @@
-//! An independent reading of document 01: written from its sentences, in its order and words.
+//! An independent reading of document 01: written from its sentences, in its order and words. What a
+//! choice changes of them is document 02's.
 //!
 //! It is the judge of what the published Rust does not have (streams, tables, refusals 1 to 7, 10
-//! and 11, soundness), and is itself judged by the Rust in all else.
+//! and 11, soundness, all choices but the default), and is itself judged by the Rust in all else.
 
 pub mod bytes;
 pub mod calls;
@@ -17,7 +18,7 @@ pub mod streams;
 mod support;
 pub mod tables;
 
-use crate::side::{Answer, Call, Side};
+use crate::side::{Answer, Call, Choices, Side};
 use crate::usage::{Table, Top, Usage};
 use calls::Rules;
 use faults::{Fault, Faults};
@@ -47,15 +48,23 @@ pub enum Receiver {
     Second = 2,
 }
 
-/// What rules are read with: the table, and the fault that is switched on.
+/// What rules are read with: the table, the choices, and the fault that is switched on.
+#[derive(Clone, Copy)]
 pub struct Setting<'a> {
     pub table: &'a Table,
+    pub choices: Choices,
     pub faults: Faults,
 }
 
 impl Setting<'_> {
     fn on(&self, fault: Fault) -> bool {
         self.faults.on(fault)
+    }
+
+    /// The setting of what is merged below the root: the same, but for a fault.
+    fn below(&self) -> Self {
+        let choices = self.faults.heard(self.choices, Fault::TieAtRootAlone);
+        Setting { choices, ..*self }
     }
 }
 
@@ -74,30 +83,37 @@ impl Reading {
         Reading { faults: Faults::only(fault) }
     }
 
-    fn setting<'a>(&self, table: &'a Table) -> Setting<'a> {
-        Setting { table, faults: self.faults }
+    fn setting<'a>(&self, choices: Choices, table: &'a Table) -> Setting<'a> {
+        Setting { table, choices, faults: self.faults }
     }
 }
 
 impl Rules for Reading {
-    fn receiver(&self, first: &Usage, second: &Usage) -> Receiver {
-        merging::receiver(first, second, self.faults)
+    fn receiver(&self, choices: Choices, first: &Usage, second: &Usage) -> Receiver {
+        merging::receiver(choices, first, second, self.faults)
     }
 
-    fn supports(&self, table: &Table, ty: u32, offset: u32, usage: &Usage) -> bool {
-        self.setting(table).supports(ty, offset, usage)
+    fn supports(
+        &self,
+        choices: Choices,
+        table: &Table,
+        ty: u32,
+        offset: u32,
+        usage: &Usage,
+    ) -> bool {
+        self.setting(choices, table).supports(ty, offset, usage)
     }
 
-    fn place(&self, table: &Table, a: Usage, d: u32, b: Usage) -> Outcome<Usage> {
-        self.setting(table).place(a, d, b)
+    fn place(&self, choices: Choices, table: &Table, a: Usage, d: u32, b: Usage) -> Outcome<Usage> {
+        self.setting(choices, table).place(a, d, b)
     }
 
-    fn merge(&self, table: &Table, first: Top, second: Top) -> Outcome<Top> {
-        self.setting(table).merge(first, second)
+    fn merge(&self, choices: Choices, table: &Table, first: Top, second: Top) -> Outcome<Top> {
+        self.setting(choices, table).merge(first, second)
     }
 
-    fn fold(&self, table: &Table, nodes: Vec<Usage>) -> Outcome<Usage> {
-        self.setting(table).fold(nodes)
+    fn fold(&self, choices: Choices, table: &Table, nodes: Vec<Usage>) -> Outcome<Usage> {
+        self.setting(choices, table).fold(nodes)
     }
 }
 

@@ -170,7 +170,7 @@ impl Setting<'_> {
         if self.fits_element(stride, r, b.size) {
             let element = self.lengthened(element, stride);
             let joined = match r == 0 && !self.on(Fault::Rule5PlacesAtZero) {
-                true => self.merge_mem(element, b)?,
+                true => self.merge_into_element(element, b)?,
                 false => self.place(element, r, b)?,
             };
             return Ok(joined.map(array));
@@ -180,7 +180,7 @@ impl Setting<'_> {
                 if (stride == other || self.on(Fault::Rule5AnyStrides))
                     && (r == 0 || self.on(Fault::Rule5AnyRest)) =>
             {
-                Ok(self.merge_mem(element, *b_element)?.map(array))
+                Ok(self.merge_into_element(element, *b_element)?.map(array))
             }
             kind => {
                 let told = match kind {
@@ -189,6 +189,14 @@ impl Setting<'_> {
                 };
                 Ok(conflicting(array(element), report::conflict(report::STRIDE, &[told])))
             }
+        }
+    }
+
+    /// `merge_mem(element, b)`.
+    fn merge_into_element(&self, element: Usage, b: Usage) -> Outcome<Usage> {
+        match self.on(Fault::Rule5ElementSecond) {
+            true => self.below().merge_mem(b, element),
+            false => self.below().merge_mem(element, b),
         }
     }
 

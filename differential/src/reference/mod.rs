@@ -13,7 +13,7 @@ use crate::reading::calls::{self, Rules};
 use crate::reading::faults::Faults;
 use crate::reading::report::at_node;
 use crate::reading::{Merged, Outcome, Receiver};
-use crate::side::{Answer, Call, Side};
+use crate::side::{Answer, Call, Choices, Side};
 use crate::usage::{Components, Entry, Kind, Layout, Record, Table, Top, Usage};
 use stand_ins::LayoutCache;
 use translate::{from_published, report_of, to_published, top_from_published, top_to_published};
@@ -24,8 +24,8 @@ pub struct Reference;
 impl Rules for Reference {
     /// `merge_mem` takes the receiver in its midst. It is watched there, while it merges two nodes
     /// of the same sizes and kinds with contents that tell them apart.
-    fn receiver(&self, first: &Usage, second: &Usage) -> Receiver {
-        let cache = LayoutCache::new(&marks());
+    fn receiver(&self, choices: Choices, first: &Usage, second: &Usage) -> Receiver {
+        let cache = layouts(choices, &marks());
         let (first, second) = (marked(first, 0), marked(second, 1));
         let seen = watch::receiver_of(|| {
             // What becomes of the merge does not matter.
@@ -36,21 +36,28 @@ impl Rules for Reference {
         if receiver == second { Receiver::Second } else { Receiver::First }
     }
 
-    fn supports(&self, table: &Table, ty: u32, offset: u32, usage: &Usage) -> bool {
-        let cache = LayoutCache::new(table);
+    fn supports(
+        &self,
+        choices: Choices,
+        table: &Table,
+        ty: u32,
+        offset: u32,
+        usage: &Usage,
+    ) -> bool {
+        let cache = layouts(choices, table);
         published::supports_usage_at_offset(cache.concrete(ty), offset, &to_published(usage))
     }
 
-    fn place(&self, table: &Table, a: Usage, d: u32, b: Usage) -> Outcome<Usage> {
-        let cache = LayoutCache::new(table);
+    fn place(&self, choices: Choices, table: &Table, a: Usage, d: u32, b: Usage) -> Outcome<Usage> {
+        let cache = layouts(choices, table);
         let (a, b) = (to_published(&a), to_published(&b));
         let (placed, pairings) = watch::pairings_of(|| published::merge_mem_at(&cache, a, d, b));
         let (usage, conflict) = placed?;
         Ok(Merged { usage: from_published(&usage), report: report_of(conflict), pairings })
     }
 
-    fn merge(&self, table: &Table, first: Top, second: Top) -> Outcome<Top> {
-        let cache = LayoutCache::new(table);
+    fn merge(&self, choices: Choices, table: &Table, first: Top, second: Top) -> Outcome<Top> {
+        let cache = layouts(choices, table);
         let (first, second) = (top_to_published(&first), top_to_published(&second));
         let (merged, pairings) = watch::pairings_of(|| published::merge(&cache, first, second));
         let (usage, conflict) = merged?;
@@ -58,8 +65,8 @@ impl Rules for Reference {
     }
 
     /// A loop over `merge_mem` that keeps what is merged, conflict or not.
-    fn fold(&self, table: &Table, nodes: Vec<Usage>) -> Outcome<Usage> {
-        let cache = LayoutCache::new(table);
+    fn fold(&self, choices: Choices, table: &Table, nodes: Vec<Usage>) -> Outcome<Usage> {
+        let cache = layouts(choices, table);
         let mut nodes = nodes.iter().map(to_published).enumerate();
         let (_, mut last) = nodes.next().expect("a list has at least one node");
         let mut report = Vec::new();
@@ -76,6 +83,23 @@ impl Rules for Reference {
         });
         Ok(Merged { usage: from_published(&folded?), report, pairings })
     }
+}
+
+/// The layouts of a table, for a question with these choices.
+fn layouts<'a>(choices: Choices, table: &Table) -> LayoutCache<'a> {
+    demand_default(choices);
+    LayoutCache::new(table)
+}
+
+/// The published Rust has the default choices built in, and no answer under others.
+///
+/// # Panics
+/// If it is asked with others.
+fn demand_default(choices: Choices) {
+    assert!(
+        Reference.knows(choices),
+        "the reference has no choices, and is asked with {choices:?}"
+    );
 }
 
 /// A node of the same size and kind, whose contents tell which it was.
@@ -100,7 +124,12 @@ impl Side for Reference {
         "reference".into()
     }
 
+    fn knows(&self, choices: Choices) -> bool {
+        choices == Choices::default()
+    }
+
     fn answer(&self, call: &Call) -> Answer {
+        demand_default(call.choices);
         calls::answer(self, Faults::NONE, call)
     }
 }

@@ -8,7 +8,7 @@ const SUPPORT: &str = "scalar 4; elements 20 (4, 0, 4); fields 4294967295 {42949
     elements 16 (4, 0, 4); elements 16+4 (4, 0, 4)";
 
 /// A table with all that makes a difference in asking.
-const WIDE: &str = "scalar 4; scalar 4; scalar 0; fields 8 {0:0 4:1}; elements 16 (4, 0, 4); \
+pub const WIDE: &str = "scalar 4; scalar 4; scalar 0; fields 8 {0:0 4:1}; elements 16 (4, 0, 4); \
     handle; failed; fields 8 {0:2 0:0 4:1 8:2}; elements 0+4 (4, 0, 0); fields 8+4 {0:0 4:1 8:8}; \
     elements 32 (8, 3, 4); handle; fields 12 {0:2 0:3 8:0}; fields 4 {0:0}";
 

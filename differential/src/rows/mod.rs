@@ -1,17 +1,20 @@
-//! Worked rows: document 01's, and directed ones for faults that random calls hardly ever show.
+//! Worked rows: document 01's, directed ones for faults that random calls hardly ever show, and rows
+//! with other choices than the default.
 
 mod directed;
 mod limits;
+mod ties;
 
 pub use directed::directed;
 pub use limits::limits;
+pub use ties::{decided_by_ties, ties, whatever_ties};
 
 use crate::notation::{report_words, table, top, usage};
 use crate::reading::calls::WORK_AREA;
 use crate::reading::faults::Faults;
 use crate::reading::streams::{read_top, write_list, write_memory, write_top};
 use crate::reading::tables::write_table;
-use crate::side::{Answer, Buffer, Call, CallKind, Side};
+use crate::side::{Answer, Buffer, Call, CallKind, Choices, Side};
 
 /// The table of the bench pairs.
 pub const BENCH_TABLE: &str =
@@ -81,6 +84,7 @@ fn call(kind: CallKind, rows_table: &str) -> Call {
     };
     Call {
         kind,
+        choices: Choices::default(),
         table: write_table(&table(rows_table)),
         work: WORK_AREA,
         ty: 0,
