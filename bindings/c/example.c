@@ -1,5 +1,6 @@
 /*
- * All six calls, on document 01's bench table. Usages stand in comments as document 01 writes them.
+ * All six calls, and three of them with ties to the first, on document 01's bench table. Usages stand
+ * in comments as document 01 writes them.
  */
 #include "usage_merger.h"
 
@@ -27,6 +28,16 @@ static const uint8_t whole[] = {QPTR_MEMORY, QPTR_DIRECT_ACCESS, 1, 8, 0, 0, 0, 
 
 /* D4,1: four bytes of type 1. */
 static const uint8_t field[] = {QPTR_MEMORY, QPTR_DIRECT_ACCESS, 1, 4, 0, 0, 0, 1, 0, 0, 0};
+
+/* D4,0: four bytes of type 0, as large and as strict as D4,1. */
+static const uint8_t other_field[] = {QPTR_MEMORY, QPTR_DIRECT_ACCESS, 1, 4, 0, 0, 0, 0, 0, 0, 0};
+
+/* D4,0 and then D4,1, as a list. */
+static const uint8_t declared[] = {
+    QPTR_LIST, 2, 0,
+    QPTR_DIRECT_ACCESS, 1, 4, 0, 0, 0, 0, 0, 0, 0,
+    QPTR_DIRECT_ACCESS, 1, 4, 0, 0, 0, 1, 0, 0, 0,
+};
 
 /* U8, D4,0 and D8,2, as a list. The unused 8 bytes become D8,0, which the struct does not support: the
  * report has a conflict of node 2. */
@@ -71,6 +82,23 @@ static void show_verdict(const char *name)
         printf("%s: %s\n", name, answer[QPTR_YES] ? "yes" : "no");
 }
 
+/* Where two tie, the choice decides who receives, and so which type is kept. */
+static void show_choice(uint32_t choices, const char *ties)
+{
+    printf("with %s:\n", ties);
+    printf("receiver of D4,0 and D4,1: %" PRIu32 "\n",
+           qptr_receiver_with(choices, other_field, sizeof other_field, field, sizeof field));
+
+    qptr_merge_with(choices, table, sizeof table, work, sizeof work, other_field,
+                    sizeof other_field, field, sizeof field, output, sizeof output,
+                    report, sizeof report, answer);
+    show_answer("merge D4,0 with D4,1");
+
+    qptr_fold_with(choices, table, sizeof table, work, sizeof work, declared, sizeof declared,
+                   output, sizeof output, report, sizeof report, answer);
+    show_answer("fold D4,0, D4,1");
+}
+
 int main(void)
 {
     qptr_merge(table, sizeof table, work, sizeof work, wrong_field, sizeof wrong_field,
@@ -100,5 +128,8 @@ int main(void)
 
     printf("receiver of O8[0:D4,1] and D8,2: %" PRIu32 "\n",
            qptr_receiver(wrong_field, sizeof wrong_field, whole, sizeof whole));
+
+    show_choice(0, "ties to the second, as in the Rust");
+    show_choice(QPTR_TIES_TO_FIRST, "ties to the first");
     return 0;
 }

@@ -30,8 +30,8 @@
 extern "C" {
 #endif
 
-/* The bytes of work area that every call but qptr_receiver asks for, at least. What they hold
- * before and afterwards is of no matter. */
+/* The bytes of work area that every call but receiver asks for, at least. What they hold before and
+ * afterwards is of no matter. */
 #define QPTR_WORK_AREA 49152
 
 /* The most nodes (commands 00 to 04) that the streams of one call may have together. */
@@ -101,8 +101,21 @@ enum qptr_report {
     QPTR_AT_NODE = 0x38            /* a list's node (2 bytes, from 0), and its conflict */
 };
 
+/* What the calls named `_with` can be asked to do otherwise than the Rust: each choice is a bit, and
+ * `choices` is the sum of those that are wanted. 0 is the Rust's behaviour, and that of the calls
+ * without `_with`. Bits that no choice has are not looked at. */
+enum qptr_choice {
+    /* Of two usages that tie, being equally large and equally strict, the first receives and not the
+     * second; at every level. First is, of two streams, the one given first; in a fold, the usage so
+     * far, so that the first declared receives; in an array, the element that is there. Of two
+     * entries of maps at one offset it is the one that is being put in, so inside of maps what was
+     * declared first need not stay. */
+    QPTR_TIES_TO_FIRST = 1
+};
+
 /* Which of two Memory streams receives the other: 1 the first, 2 the second, 0 where one of them is
- * bad or both have too many nodes. */
+ * bad or both have too many nodes. The larger does; of equally large ones the stricter (an Unused or
+ * a map is least strict, then an array, then a typed leaf); on a tie of both the second. */
 uint32_t qptr_receiver(const uint8_t *first, size_t first_length,
                        const uint8_t *second, size_t second_length);
 
@@ -139,6 +152,39 @@ void qptr_fold(const uint8_t *table, size_t table_length, uint8_t *work, size_t 
                const uint8_t *list, size_t list_length,
                uint8_t *output, size_t output_length, uint8_t *report, size_t report_length,
                uint64_t answer[QPTR_ANSWER_LENGTH]);
+
+/* The same calls with choices. All else is as without: formats, refusals and their order, buffers,
+ * work area, and what is promised of sound usages. With choices 0 they give the same answers.
+ * qptr_sound has no such twin, since nothing that can be chosen touches it. */
+
+uint32_t qptr_receiver_with(uint32_t choices, const uint8_t *first, size_t first_length,
+                            const uint8_t *second, size_t second_length);
+
+/* The tie rule does not touch it: support merges nothing. It takes choices for those that will. */
+void qptr_supports_with(uint32_t choices, const uint8_t *table, size_t table_length,
+                        uint8_t *work, size_t work_length, uint32_t type, uint32_t offset,
+                        const uint8_t *stream, size_t stream_length,
+                        uint64_t answer[QPTR_ANSWER_LENGTH]);
+
+/* The first receives in any case; ties are met where usages inside of the two are merged. */
+void qptr_place_with(uint32_t choices, const uint8_t *table, size_t table_length,
+                     uint8_t *work, size_t work_length,
+                     const uint8_t *first, size_t first_length, uint32_t offset,
+                     const uint8_t *second, size_t second_length,
+                     uint8_t *output, size_t output_length, uint8_t *report, size_t report_length,
+                     uint64_t answer[QPTR_ANSWER_LENGTH]);
+
+void qptr_merge_with(uint32_t choices, const uint8_t *table, size_t table_length,
+                     uint8_t *work, size_t work_length,
+                     const uint8_t *first, size_t first_length,
+                     const uint8_t *second, size_t second_length,
+                     uint8_t *output, size_t output_length, uint8_t *report, size_t report_length,
+                     uint64_t answer[QPTR_ANSWER_LENGTH]);
+
+void qptr_fold_with(uint32_t choices, const uint8_t *table, size_t table_length,
+                    uint8_t *work, size_t work_length, const uint8_t *list, size_t list_length,
+                    uint8_t *output, size_t output_length, uint8_t *report, size_t report_length,
+                    uint64_t answer[QPTR_ANSWER_LENGTH]);
 
 #ifdef __cplusplus
 }

@@ -3,8 +3,20 @@
 //! For those who keep tables and streams as bytes. [`UsageMerger`](crate::UsageMerger) does the
 //! same with values, and manages the buffers.
 //!
+//! The library takes all [`Choices`] as one number, which is 0 for what the source does:
+//!
+//! ```
+//! use usage_merger::{Choices, Ties};
+//! assert_eq!(Choices::default().number(), 0);
+//! assert_eq!(Choices::of(1), Choices::default().with_ties(Ties::First));
+//! // A bit that no choice has.
+//! assert_eq!(Choices::of(1 << 31), Choices::default());
+//! ```
+//!
 //! Every input is answered: what breaks the format is refused by a number. All unsafe code of the
 //! crate is in this file.
+
+use crate::choices::Choices;
 
 /// The bytes of work area that every call but [`receiver`] asks for. What they hold before and
 /// afterwards is of no matter.
@@ -28,7 +40,8 @@ pub struct Answer {
     pub pairings: u64,
 }
 
-/// The C declarations: a slice is a pointer and a length.
+/// The C declarations: a slice is a pointer and a length, and choices come first. What the library
+/// has for those who choose nothing, under the names without `_with`, is not needed here.
 #[rustfmt::skip]
 mod linked {
     /// A slice that is read.
@@ -39,27 +52,29 @@ mod linked {
     type Words = *mut [u64; 5];
 
     unsafe extern "C" {
-        pub fn qptr_receiver(first: Bytes, first_len: usize, second: Bytes, second_len: usize) -> u32;
+        pub fn qptr_receiver_with(
+            choices: u32, first: Bytes, first_len: usize, second: Bytes, second_len: usize,
+        ) -> u32;
 
-        pub fn qptr_supports(
-            table: Bytes, table_len: usize, work: BytesMut, work_len: usize, ty: u32, offset: u32,
-            stream: Bytes, stream_len: usize, answer: Words,
+        pub fn qptr_supports_with(
+            choices: u32, table: Bytes, table_len: usize, work: BytesMut, work_len: usize,
+            ty: u32, offset: u32, stream: Bytes, stream_len: usize, answer: Words,
         );
 
-        pub fn qptr_place(
-            table: Bytes, table_len: usize, work: BytesMut, work_len: usize,
+        pub fn qptr_place_with(
+            choices: u32, table: Bytes, table_len: usize, work: BytesMut, work_len: usize,
             first: Bytes, first_len: usize, offset: u32, second: Bytes, second_len: usize,
             output: BytesMut, output_len: usize, report: BytesMut, report_len: usize, answer: Words,
         );
 
-        pub fn qptr_merge(
-            table: Bytes, table_len: usize, work: BytesMut, work_len: usize,
+        pub fn qptr_merge_with(
+            choices: u32, table: Bytes, table_len: usize, work: BytesMut, work_len: usize,
             first: Bytes, first_len: usize, second: Bytes, second_len: usize,
             output: BytesMut, output_len: usize, report: BytesMut, report_len: usize, answer: Words,
         );
 
-        pub fn qptr_fold(
-            table: Bytes, table_len: usize, work: BytesMut, work_len: usize,
+        pub fn qptr_fold_with(
+            choices: u32, table: Bytes, table_len: usize, work: BytesMut, work_len: usize,
             list: Bytes, list_len: usize,
             output: BytesMut, output_len: usize, report: BytesMut, report_len: usize, answer: Words,
         );
@@ -78,6 +93,8 @@ pub struct Setting<'a> {
     pub table: &'a [u8],
     /// The work area.
     pub work: &'a mut [u8],
+    /// The choices. None of them matters to [`sound`].
+    pub choices: Choices,
 }
 
 /// Where [`place`], [`merge`] and [`fold`] write.
@@ -97,42 +114,52 @@ pub struct Buffers<'a> {
 /// is bad or both have too many nodes.
 ///
 /// ```
-/// use usage_merger::calls::receiver;
+/// use usage_merger::{Choices, Ties, calls::receiver};
 /// let (small, large) = ([0x0a, 0, 1, 4, 0, 0, 0], [0x0a, 0, 1, 8, 0, 0, 0]);
-/// assert_eq!(receiver(&small, &large), 2);
-/// assert_eq!(receiver(&small, b"no stream"), 0);
+/// let (to_second, to_first) = (Choices::default(), Choices::default().with_ties(Ties::First));
+/// assert_eq!((receiver(to_second, &small, &large), receiver(to_first, &small, &large)), (2, 2));
+/// assert_eq!((receiver(to_second, &small, &small), receiver(to_first, &small, &small)), (2, 1));
+/// assert_eq!(receiver(to_first, &small, b"no stream"), 0);
 /// ```
-pub fn receiver(first: &[u8], second: &[u8]) -> u32 {
+#[rustfmt::skip]
+pub fn receiver(choices: Choices, first: &[u8], second: &[u8]) -> u32 {
     // SAFETY: as said above.
-    unsafe { linked::qptr_receiver(first.as_ptr(), first.len(), second.as_ptr(), second.len()) }
+    unsafe {
+        linked::qptr_receiver_with(
+            choices.number(), first.as_ptr(), first.len(), second.as_ptr(), second.len(),
+        )
+    }
 }
 
-/// Whether a type supports the usage of a Memory stream at an offset.
+/// Whether a type supports the usage of a Memory stream at an offset. The tie rule does not matter
+/// to it.
 #[rustfmt::skip]
 pub fn supports(setting: Setting<'_>, ty: u32, offset: u32, stream: &[u8]) -> Answer {
-    let Setting { table, work } = setting;
+    let Setting { table, work, choices } = setting;
     let mut words = [0; 5];
     // SAFETY: as said above.
     unsafe {
-        linked::qptr_supports(
-            table.as_ptr(), table.len(), work.as_mut_ptr(), work.len(), ty, offset,
-            stream.as_ptr(), stream.len(), &raw mut words,
+        linked::qptr_supports_with(
+            choices.number(), table.as_ptr(), table.len(), work.as_mut_ptr(), work.len(),
+            ty, offset, stream.as_ptr(), stream.len(), &raw mut words,
         );
     }
     Answer::of(words)
 }
 
-/// Places the usage of the second Memory stream into the first's, at an offset.
+/// Places the usage of the second Memory stream into the first's, at an offset. The tie rule is
+/// asked where that leads to merging.
 #[rustfmt::skip]
 pub fn place(
     setting: Setting<'_>, first: &[u8], offset: u32, second: &[u8], buffers: Buffers<'_>,
 ) -> Answer {
-    let (Setting { table, work }, Buffers { output, report }) = (setting, buffers);
+    let Setting { table, work, choices } = setting;
+    let Buffers { output, report } = buffers;
     let mut words = [0; 5];
     // SAFETY: as said above.
     unsafe {
-        linked::qptr_place(
-            table.as_ptr(), table.len(), work.as_mut_ptr(), work.len(),
+        linked::qptr_place_with(
+            choices.number(), table.as_ptr(), table.len(), work.as_mut_ptr(), work.len(),
             first.as_ptr(), first.len(), offset, second.as_ptr(), second.len(),
             output.as_mut_ptr(), output.len(), report.as_mut_ptr(), report.len(), &raw mut words,
         );
@@ -143,9 +170,9 @@ pub fn place(
 /// Merges two tops.
 ///
 /// ```
-/// use usage_merger::calls::{Buffers, Setting, WORK_AREA, merge};
+/// use usage_merger::{Choices, calls::{Buffers, Setting, WORK_AREA, merge}};
 /// let mut work = vec![0; WORK_AREA];
-/// let setting = Setting { table: &[0, 0], work: &mut work };
+/// let setting = Setting { table: &[0, 0], work: &mut work, choices: Choices::default() };
 /// let unused = [0x0a, 0, 1, 0, 0, 0, 0];
 /// let (mut output, mut report) = ([0xee; 8], [0xee; 2]);
 /// let buffers = Buffers { output: &mut output, report: &mut report };
@@ -155,12 +182,13 @@ pub fn place(
 /// ```
 #[rustfmt::skip]
 pub fn merge(setting: Setting<'_>, first: &[u8], second: &[u8], buffers: Buffers<'_>) -> Answer {
-    let (Setting { table, work }, Buffers { output, report }) = (setting, buffers);
+    let Setting { table, work, choices } = setting;
+    let Buffers { output, report } = buffers;
     let mut words = [0; 5];
     // SAFETY: as said above.
     unsafe {
-        linked::qptr_merge(
-            table.as_ptr(), table.len(), work.as_mut_ptr(), work.len(),
+        linked::qptr_merge_with(
+            choices.number(), table.as_ptr(), table.len(), work.as_mut_ptr(), work.len(),
             first.as_ptr(), first.len(), second.as_ptr(), second.len(),
             output.as_mut_ptr(), output.len(), report.as_mut_ptr(), report.len(), &raw mut words,
         );
@@ -168,15 +196,16 @@ pub fn merge(setting: Setting<'_>, first: &[u8], second: &[u8], buffers: Buffers
     Answer::of(words)
 }
 
-/// Folds the nodes of a list.
+/// Folds the nodes of a list. The usage so far is the first of each merge.
 #[rustfmt::skip]
 pub fn fold(setting: Setting<'_>, list: &[u8], buffers: Buffers<'_>) -> Answer {
-    let (Setting { table, work }, Buffers { output, report }) = (setting, buffers);
+    let Setting { table, work, choices } = setting;
+    let Buffers { output, report } = buffers;
     let mut words = [0; 5];
     // SAFETY: as said above.
     unsafe {
-        linked::qptr_fold(
-            table.as_ptr(), table.len(), work.as_mut_ptr(), work.len(),
+        linked::qptr_fold_with(
+            choices.number(), table.as_ptr(), table.len(), work.as_mut_ptr(), work.len(),
             list.as_ptr(), list.len(),
             output.as_mut_ptr(), output.len(), report.as_mut_ptr(), report.len(), &raw mut words,
         );
@@ -187,7 +216,7 @@ pub fn fold(setting: Setting<'_>, list: &[u8], buffers: Buffers<'_>) -> Answer {
 /// Whether the usage of a Memory stream is sound.
 #[rustfmt::skip]
 pub fn sound(setting: Setting<'_>, stream: &[u8]) -> Answer {
-    let Setting { table, work } = setting;
+    let Setting { table, work, choices: _ } = setting;
     let mut words = [0; 5];
     // SAFETY: as said above.
     unsafe {

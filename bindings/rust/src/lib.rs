@@ -16,6 +16,24 @@
 //! # Ok::<(), Box<dyn std::error::Error>>(())
 //! ```
 //!
+//! Calls do what the source does, unless [`Choices`] say otherwise. On a tie of size and strictness
+//! the second usage receives; or the first, where that is chosen. Two entries of maps at one offset are
+//! merged the other way round, the one that is put in before the one that is there:
+//!
+//! ```
+//! # use usage_merger::{Choices, QPtrMemUsage, Table, Ties, UsageMerger};
+//! let merger = UsageMerger::new(&Table::bench())?;
+//! let mut merger = merger.with_choices(Choices::default().with_ties(Ties::First));
+//! let mut merged = |a: &str, b: &str| -> Result<String, Box<dyn std::error::Error>> {
+//!     let (a, b): (QPtrMemUsage, QPtrMemUsage) = (a.parse()?, b.parse()?);
+//!     Ok(merger.merge_mem(&a, &b)?.merged.to_string())
+//! };
+//! assert_eq!(merged("D4,0", "D4,1")?, "D4,0");
+//! assert_eq!(merged("A8,4,D4,0", "A8,4,D4,1")?, "A8,4,D4,0");
+//! assert_eq!(merged("O8[0:D4,0]", "O8[0:D4,1]")?, "O8[0:D4,1]");
+//! # Ok::<(), Box<dyn std::error::Error>>(())
+//! ```
+//!
 //! Types have the source's names; what is different is said where it is. Tables and usages are
 //! values; [`notation`] has a short way to write them. Wherever something can be wrong there is an
 //! [`Error`]: the library's refusals, with their numbers and words, among them. No function panics.
@@ -29,6 +47,7 @@
 mod bytes;
 #[allow(unsafe_code)]
 pub mod calls;
+mod choices;
 mod conflict;
 mod display;
 mod error;
@@ -39,6 +58,7 @@ mod streams;
 mod table;
 mod usage;
 
+pub use choices::{Choices, Ties};
 pub use conflict::{Conflict, ConflictKind};
 pub use error::{ByteFault, BytesError, Error, ValueError};
 pub use merger::{MergeResult, Receiver, UsageMerger};

@@ -1,6 +1,7 @@
 //! `UsageMerger`: the calls on values.
 
 use crate::calls::{self, Answer, Buffers, MOST_NODES, Setting, WORK_AREA};
+use crate::choices::Choices;
 use crate::conflict::Conflict;
 use crate::error::Error;
 use crate::refusal::Refusal;
@@ -21,8 +22,9 @@ const FIRST_REPORT: usize = 256;
 
 /// Merges usages, as SPIR-T's `UsageMerger` does, over one layout table.
 ///
-/// It keeps the table's bytes, the work area and the buffers, and enlarges the buffers where an
-/// answer needs more. Nothing that a call answers depends on the calls before it.
+/// It keeps the table's bytes, the choices, the work area and the buffers, and enlarges the buffers
+/// where an answer needs more. Nothing that a call answers depends on the calls before it. A new
+/// one does what the source does; [`with_choices`](UsageMerger::with_choices) has that changed.
 ///
 /// Usages of over 512 nodes together are refused, not merged; a larger value is still written and
 /// read whole before that. Merging and support recurse in the library: 640 KiB of stack was enough
@@ -44,6 +46,7 @@ const FIRST_REPORT: usize = 256;
 /// ```
 #[derive(Clone, Debug)]
 pub struct UsageMerger {
+    choices: Choices,
     table: Vec<u8>,
     work: Vec<u8>,
     output: Vec<u8>,
@@ -77,12 +80,13 @@ impl<T> MergeResult<T> {
     }
 }
 
-/// Which of two usages receives the other when they are merged.
+/// Which of two usages receives the other when they are merged: the larger, of equally large ones
+/// the stricter, and on a tie of both the one that is chosen ([`Ties`](crate::Ties)).
 #[derive(Clone, Copy, Debug, PartialEq, Eq, Hash)]
 pub enum Receiver {
     /// The first.
     First,
-    /// The second, also on a tie.
+    /// The second, also on a tie where nothing is chosen.
     Second,
 }
 
@@ -113,10 +117,37 @@ impl UsageMerger {
     pub fn from_table_bytes(table: Vec<u8>) -> Result<UsageMerger, Error> {
         let work = vec![0; WORK_AREA];
         let report = vec![0; FIRST_REPORT];
-        let mut merger = UsageMerger { table, work, output: Vec::new(), report };
+        let choices = Choices::default();
+        let mut merger = UsageMerger { choices, table, work, output: Vec::new(), report };
         // Any question tells whether the table is accepted.
         merger.is_sound(&QPtrMemUsage::UNUSED)?;
         Ok(merger)
+    }
+
+    /// The same merger with these choices, for all calls that it makes from now on.
+    ///
+    /// With ties to the first, of accesses that tie the one declared first stays:
+    ///
+    /// ```
+    /// # use usage_merger::{Choices, QPtrMemUsage, Receiver, Table, Ties, UsageMerger};
+    /// let (a, b): (QPtrMemUsage, QPtrMemUsage) = ("D4,0".parse()?, "D4,1".parse()?);
+    /// let mut merger = UsageMerger::new(&Table::bench())?;
+    /// assert_eq!(merger.merge_mem(&a, &b)?.merged, b);
+    ///
+    /// let mut merger = merger.with_choices(Choices::default().with_ties(Ties::First));
+    /// assert_eq!(merger.receiver(&a, &b)?, Receiver::First);
+    /// assert_eq!(merger.merge_mem(&a, &b)?.merged, a);
+    /// assert_eq!(merger.fold([&a, &b, &b])?.merged, a);
+    /// # Ok::<(), Box<dyn std::error::Error>>(())
+    /// ```
+    #[must_use]
+    pub fn with_choices(self, choices: Choices) -> UsageMerger {
+        UsageMerger { choices, ..self }
+    }
+
+    /// The choices that its calls are made with.
+    pub fn choices(&self) -> Choices {
+        self.choices
     }
 
     /// Merges two usages: equal opaque handles stay, two buffers or two memories are merged, and
@@ -141,7 +172,8 @@ impl UsageMerger {
         Ok(MergeResult { merged, conflicts, pairings })
     }
 
-    /// Merges two memory usages: the larger or stricter receives the other, at 0.
+    /// Merges two memory usages: the larger or stricter receives the other, at 0. Who does on a tie
+    /// is a choice.
     ///
     /// # Errors
     /// If the library refuses, or a value has no bytes. Sound usages are never refused with
@@ -184,7 +216,7 @@ impl UsageMerger {
     }
 
     /// Folds usages: the first as it stands, then each next one merged with the usage so far,
-    /// conflict or not.
+    /// conflict or not. Of the two the usage so far is the first.
     ///
     /// ```
     /// # use usage_merger::{QPtrMemUsage, Table, UsageMerger};
@@ -249,7 +281,8 @@ impl UsageMerger {
         verdict(calls::sound(self.setting(), &stream))
     }
 
-    /// Which of two usages would receive the other. The table does not matter.
+    /// Which of two usages would receive the other, with this merger's choices. The table does not
+    /// matter.
     ///
     /// ```
     /// # use usage_merger::{QPtrMemUsage, Receiver, Table, UsageMerger};
@@ -263,7 +296,7 @@ impl UsageMerger {
     /// # Errors
     /// [`Refusal::TooManyNodes`], or if a value has no bytes.
     pub fn receiver(&self, a: &QPtrMemUsage, b: &QPtrMemUsage) -> Result<Receiver, Error> {
-        match calls::receiver(&a.to_bytes()?, &b.to_bytes()?) {
+        match calls::receiver(self.choices, &a.to_bytes()?, &b.to_bytes()?) {
             // Bytes of a value are a stream, so this is the only refusal that is left.
             0 => Err(Refusal::TooManyNodes.into()),
             1 => Ok(Receiver::First),
@@ -273,7 +306,7 @@ impl UsageMerger {
     }
 
     fn setting(&mut self) -> Setting<'_> {
-        Setting { table: &self.table, work: &mut self.work }
+        Setting { table: &self.table, work: &mut self.work, choices: self.choices }
     }
 
     /// Asks until the buffers are long enough. The usage is seldom longer than what it is made of: a
@@ -285,7 +318,8 @@ impl UsageMerger {
     ) -> Result<Written, Error> {
         enlarge(&mut self.output, input, LONGEST_OUTPUT);
         loop {
-            let setting = Setting { table: &self.table, work: &mut self.work };
+            let (table, work) = (&self.table, &mut self.work);
+            let setting = Setting { table, work, choices: self.choices };
             let to = Buffers { output: &mut self.output, report: &mut self.report };
             let answer = call(setting, to);
             let (output, report) = (self.output.len(), self.report.len());
@@ -350,6 +384,7 @@ fn memory(written: Written) -> Result<MergeResult<QPtrMemUsage>, Error> {
 #[cfg(test)]
 mod tests {
     use super::*;
+    use crate::choices::Ties;
     use crate::conflict::ConflictKind;
     use crate::error::ValueError;
     use crate::usage::QPtrMemUsageKind;
@@ -407,6 +442,22 @@ mod tests {
         assert_eq!(refused, Err(Error::Refused(Refusal::TooManyNodes)));
         let answer = merger.fold(&vec![usage("D4,0"); 512]).unwrap();
         assert_eq!((answer.merged, answer.pairings), (usage("D4,0"), 511));
+    }
+
+    #[test]
+    fn choices_reach_the_calls() {
+        let to_first = Choices::default().with_ties(Ties::First);
+        assert_eq!(merger().choices(), Choices::default());
+        let mut merger = merger().with_choices(to_first);
+        assert_eq!((merger.choices(), merger.clone().choices()), (to_first, to_first));
+        let (a, b) = (usage("D4,0"), usage("D4,1"));
+        assert_eq!(merger.receiver(&a, &b), Ok(Receiver::First));
+        assert_eq!(merger.merge_mem(&a, &b).unwrap().merged, a);
+        assert_eq!(merger.fold([&a, &b, &a, &b]).unwrap().merged, a);
+        let top = merger.merge(&a.clone().into(), &b.clone().into()).unwrap();
+        assert_eq!(top.merged, a.into());
+        let array = usage("A8,4,D4,0");
+        assert_eq!(merger.merge_mem_at(&array, 4, &b).unwrap().merged, array);
     }
 
     #[test]

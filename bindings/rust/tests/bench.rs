@@ -1,6 +1,9 @@
-//! Document 01's bench pairs, as values.
+//! Document 01's bench pairs, as values; and with ties to the first.
 
-use usage_merger::{Conflict, ConflictKind, Error, QPtrMemUsage, Refusal, Table, UsageMerger};
+use usage_merger::{
+    Choices, Conflict, ConflictKind, Error, MergeResult, QPtrMemUsage, Refusal, Table, Ties,
+    UsageMerger,
+};
 
 /// First, second, the merged usage, the pairings.
 const ANSWERED: [(&str, &str, &str, u64); 12] = [
@@ -18,14 +21,37 @@ const ANSWERED: [(&str, &str, &str, u64); 12] = [
     ("D4,4", "D4,0", "D4,4", 1),
 ];
 
+/// Those of them that are answered otherwise with ties to the first, worked out from document 01 with
+/// this rule alone changed; and pairs that tie in an array's element and at a map's offset.
+const TO_FIRST: [(&str, &str, &str, u64); 6] = [
+    ("D4,0", "D4,1", "D4,0", 1),
+    ("O12[0:D4,0 4:D4,0]", "O12[2:D4,0]", "O12[0:D4,0]", 2),
+    ("O16[4:D4,0]", "O16[0:U16]", "O16[4:D4,0]", 2),
+    ("O8[4:D0,0]", "O8[4:D4,0]", "O8[4:D4,0]", 2),
+    ("A16,4,D4,0", "D4,1", "A16,4,D4,0", 2),
+    ("O8[0:D4,0]", "D4,1", "O8[0:D4,1]", 2),
+];
+
 fn usage(text: &str) -> QPtrMemUsage {
     text.parse().unwrap()
 }
 
-fn merged(first: &str, second: &str) -> (String, Vec<Conflict>, u64) {
-    let mut merger = UsageMerger::new(&Table::bench()).unwrap();
+fn answer(ties: Ties, first: &str, second: &str) -> MergeResult<String> {
+    let merger = UsageMerger::new(&Table::bench()).unwrap();
+    let mut merger = merger.with_choices(Choices::default().with_ties(ties));
     let answer = merger.merge_mem(&usage(first), &usage(second)).unwrap();
-    (answer.merged.to_string(), answer.conflicts, answer.pairings)
+    answer.map(|usage| usage.to_string())
+}
+
+fn merged(first: &str, second: &str) -> (String, Vec<Conflict>, u64) {
+    let answer = answer(Ties::Second, first, second);
+    (answer.merged, answer.conflicts, answer.pairings)
+}
+
+/// A conflict at these offsets, alone.
+fn conflict(offsets: &[u32], kind: ConflictKind) -> Vec<Conflict> {
+    let offsets = offsets.to_vec();
+    vec![Conflict { node: None, perhaps_within: Vec::new(), offsets, kind }]
 }
 
 #[test]
@@ -37,11 +63,26 @@ fn the_answers_are_as_written() {
 }
 
 #[test]
+fn ties_to_the_first_are_as_worked_out() {
+    let worked = |first, second| TO_FIRST.iter().find(|row| (row.0, row.1) == (first, second));
+    let same = ANSWERED.iter().filter(|row| worked(row.0, row.1).is_none());
+    assert_eq!(same.clone().count(), 8);
+    for (first, second, expected, pairings) in TO_FIRST.iter().chain(same) {
+        let answer = answer(Ties::First, first, second);
+        assert_eq!(
+            (&answer.merged[..], answer.pairings),
+            (*expected, *pairings),
+            "{first} {second}"
+        );
+    }
+    assert_eq!(answer(Ties::First, "D4,0", "D4,1").conflicts, conflict(&[], ConflictKind::Type));
+    let straddle = ConflictKind::Straddle { entry: 4, usage: 2 };
+    let straddled = answer(Ties::First, "O12[0:D4,0 4:D4,0]", "O12[2:D4,0]");
+    assert_eq!(straddled.conflicts, conflict(&[2], straddle));
+}
+
+#[test]
 fn the_conflicts_are_as_written() {
-    let conflict = |offsets: &[u32], kind| {
-        let offsets = offsets.to_vec();
-        vec![Conflict { node: None, perhaps_within: Vec::new(), offsets, kind }]
-    };
     assert_eq!(merged("D4,0", "D4,1").1, conflict(&[], ConflictKind::Type));
     let straddle = ConflictKind::Straddle { entry: 2, usage: 0 };
     assert_eq!(merged("O12[0:D4,0 4:D4,0]", "O12[2:D4,0]").1, conflict(&[0], straddle));

@@ -7,6 +7,7 @@ use random::Rng;
 use std::path::PathBuf;
 use std::process::{Command, Output};
 use std::{env, fs};
+use usage_merger::Choices;
 use usage_merger::calls::{self, Buffers, Setting, WORK_AREA};
 
 fn run(arguments: &[&str]) -> Output {
@@ -113,6 +114,52 @@ fn a_usage_is_placed_at_an_offset() {
 }
 
 #[test]
+fn a_tie_is_told_and_its_rule_is_chosen() {
+    let second = shown(&["D4,0", "D4,1"]);
+    let receives =
+        "second  Memory D4,1  sound, 1 node, receives: a tie, and ties go to the second\n";
+    assert!(second.contains(receives), "{second}");
+    assert!(second.contains("\nmerged  Memory D4,1  sound, 1 node\n"), "{second}");
+    assert_eq!(second, shown(&["--ties", "second", "D4,0", "D4,1"]));
+
+    let first = shown(&["--ties", "first", "D4,0", "D4,1"]);
+    let receives =
+        "first   Memory D4,0  sound, 1 node, receives: a tie, and ties go to the first\n";
+    assert!(first.starts_with(receives), "{first}");
+    assert!(
+        first.contains("\nmerged  Memory D4,0  sound, 1 node, ties go to the first\n"),
+        "{first}"
+    );
+    assert_eq!(first, shown(&["--ties=first", "D4,0", "D4,1"]));
+    assert_eq!(first, shown(&["--ties", "second", "--ties", "first", "D4,0", "D4,1"]));
+    let buffers = shown(&["--ties", "first", "Buffer D4,0", "Buffer D4,1"]);
+    assert!(buffers.contains("merged  Buffer D4,0"), "{buffers}");
+
+    // Where size or strictness decides, the rule does not.
+    for ties in ["first", "second"] {
+        let larger = shown(&["--ties", ties, "D4,0", "O8[4:D4,1]"]);
+        assert!(larger.contains("  sound, 2 nodes, receives\n"), "{larger}");
+        let stricter = shown(&["--ties", ties, "D8,2", "O8[4:D4,1]"]);
+        assert!(stricter.contains("  sound, 1 node, receives\n"), "{stricter}");
+    }
+}
+
+#[test]
+fn ties_are_met_in_folds_and_placings() {
+    let usages = ["D4,0", "D4,1", "D4,0", "D4,1"];
+    assert!(shown(&usages).contains("\nfolded  Memory D4,1  sound, 1 node\n"));
+    let folded = shown(&[&["--ties", "first"], &usages[..]].concat());
+    assert!(
+        folded.contains("\nfolded  Memory D4,0  sound, 1 node, ties go to the first\n"),
+        "{folded}"
+    );
+    let pair = ["A8,4,D4,0", "D4,1"];
+    assert!(shown(&[&["--at", "4"], &pair[..]].concat()).contains("\nplaced  Memory A8,4,D4,1  "));
+    let placed = shown(&[&["--at", "4", "--ties", "first"], &pair[..]].concat());
+    assert!(placed.contains("\nplaced  Memory A8,4,D4,0  "), "{placed}");
+}
+
+#[test]
 fn a_table_is_taken() {
     let table = "scalar 4; elements 0+4 (4, 0, 0)";
     let merged = shown(&["--table", table, "D*,1", "O8[4:D4,0]"]);
@@ -162,6 +209,11 @@ fn misuse_is_said() {
     assert!(failed(2, &["--nothing", "U0"]).contains("no option is --nothing"));
     assert!(failed(2, &["U0", "Opaque 1", "U0"]).contains("is no memory"));
     assert!(failed(2, &["--", "-U0"]).contains("the first usage: expected"));
+    assert!(failed(2, &["--ties"]).contains("--ties needs something after it"));
+    let expected = "usage-merge: --ties: expected `first` or `second`\n  third\n  ^\n";
+    assert_eq!(failed(2, &["--ties", "third", "U0"]), expected);
+    assert_eq!(failed(2, &["--ties=third", "U0"]), expected);
+    assert!(failed(2, &["--ties=", "U0"]).contains("expected `first` or `second`"));
     assert!(shown(&["--help"]).starts_with("usage-merge merges usages"));
     let no_folder = failed(1, &["--svg", "/no folder here/a.svg", "U0", "U0"]);
     assert!(no_folder.contains("/no folder here/a.svg: "), "{no_folder}");
@@ -183,7 +235,8 @@ fn a_frame_has_three_blocks() {
     assert_eq!((&blocks[0], &blocks[2]), (&table, &second));
     // What the program prints of it.
     let (mut work, mut output, mut report) = (vec![0; WORK_AREA], vec![0; 16_384], vec![0; 16_384]);
-    let setting = Setting { table: &blocks[0], work: &mut work };
+    let choices = Choices::default();
+    let setting = Setting { table: &blocks[0], work: &mut work, choices };
     let to = Buffers { output: &mut output, report: &mut report };
     let answer = calls::merge(setting, &blocks[1], &blocks[2], to);
     let hex = |bytes: &[u8], length: u64| {
@@ -196,6 +249,9 @@ fn a_frame_has_three_blocks() {
     assert!(failed(2, &["--frame", "U0"]).contains("--frame takes two usages"));
     assert!(failed(2, &["--frame", "--at", "0", "U0", "U0"]).contains("without --at"));
     assert!(failed(2, &["--frame", "--svg", "no.svg", "U0", "U0"]).contains("without --svg"));
+    let ties = failed(2, &["--frame", "--ties", "first", "U0", "U0"]);
+    assert!(ties.contains("--frame goes without --ties first"), "{ties}");
+    assert_eq!(run(&["--frame", "--ties=second", "O8[0:D4,1]", "D8,2"]).stdout, frame);
     let entries: Vec<String> = (0..10_000).map(|offset| format!("{offset}:U1")).collect();
     let long = failed(1, &["--frame", "U0", &format!("O*[{}]", entries.join(" "))]);
     assert!(long.contains("the program reads at most 65536"), "{long}");
@@ -247,6 +303,9 @@ fn a_picture_shows_rows_and_overlaps() {
     let (_, svg) = picture("slots.svg", &["A32,16,O16[0:D4,0]", "O32[16:D8,2]"]);
     assert_eq!(svg.matches("class=\"both\"").count(), 1);
     assert!(svg.contains("An array's element is drawn in its first slot"));
+    let (_, svg) = picture("ties.svg", &["--ties", "first", "D4,0", "D4,1"]);
+    well_formed(&svg);
+    assert!(svg.contains("result: Memory D4,0 (sound, ties go to the first)"));
     let (_, svg) = picture("apart.svg", &["O8[0:D4,0]", "O8[4:D4,1]"]);
     assert!(svg.contains("no byte is accessed by more than one usage"));
     assert!(!svg.contains("An array's element"));
@@ -289,7 +348,18 @@ fn any_words_are_answered() {
             .collect();
         let mut words: Vec<&str> = texts.iter().map(String::as_str).collect();
         if rng.one_in(3) {
-            words.push(rng.pick(&["--frame", "--at", "--table", "--at=4", "--table=", "--", "-"]));
+            let options = [
+                "--frame",
+                "--at",
+                "--table",
+                "--at=4",
+                "--table=",
+                "--ties=first",
+                "--ties",
+                "--",
+                "-",
+            ];
+            words.push(rng.pick(&options));
         }
         let (output, _) = picture("words.svg", &words);
         assert!(matches!(output.status.code(), Some(0..=2)), "{words:?}");

@@ -10,9 +10,9 @@ use std::env;
 use std::time::{Duration, Instant};
 use usage_merger::calls::{self, Answer, Buffers, Setting, WORK_AREA};
 use usage_merger::{
-    ByteFault, Conflict, Error, MergeResult, NotationError, QPtrMemUsage, QPtrMemUsageKind,
-    QPtrUsage, Receiver, Refusal, Table, Type, TypeLayout, UsageMerger, ValueError,
-    list_from_bytes, list_to_bytes,
+    ByteFault, Choices, Conflict, Error, MergeResult, NotationError, QPtrMemUsage,
+    QPtrMemUsageKind, QPtrUsage, Receiver, Refusal, Table, Ties, Type, TypeLayout, UsageMerger,
+    ValueError, list_from_bytes, list_to_bytes,
 };
 
 /// Runs a part again and again until its share of the time is over.
@@ -89,11 +89,11 @@ fn the_library_reads_the_same() {
     let mut work = vec![0; WORK_AREA];
     let unused = QPtrMemUsage::UNUSED.to_bytes().unwrap();
     fuzz(0.2, 2, |rng| {
-        let bytes = bytes_of_any_kind(rng);
-        let answer = calls::sound(Setting { table: &bench, work: &mut work }, &bytes);
+        let (bytes, choices) = (bytes_of_any_kind(rng), rng.choices());
+        let answer = calls::sound(Setting { table: &bench, work: &mut work, choices }, &bytes);
         let bad = Refusal::of(answer.number) == Some(Refusal::BadFirst);
         assert_eq!(bad, QPtrMemUsage::from_bytes(&bytes).is_err(), "{bytes:02x?}");
-        let answer = calls::sound(Setting { table: &bytes, work: &mut work }, &unused);
+        let answer = calls::sound(Setting { table: &bytes, work: &mut work, choices }, &unused);
         if Table::from_bytes(&bytes).is_err() {
             assert_eq!(Refusal::of(answer.number), Some(Refusal::BadTable), "{bytes:02x?}");
         }
@@ -112,10 +112,10 @@ fn calls_on_bytes_keep_to_their_buffers() {
         let length = rng.pick(&[WORK_AREA, WORK_AREA, WORK_AREA, WORK_AREA + 1, WORK_AREA - 1, 0]);
         let mut work = vec![0xee; length];
         let (first, second) = (bytes_of_any_kind(rng), bytes_of_any_kind(rng));
-        let (ty, offset) = (rng.number(), rng.number());
+        let (ty, offset, choices) = (rng.number(), rng.number(), rng.choices());
         let (mut output, mut report) = (vec![0xaa; rng.below(200)], vec![0xaa; rng.below(60)]);
         let mut ask = |call: usize| {
-            let setting = Setting { table: &table, work: &mut work };
+            let setting = Setting { table: &table, work: &mut work, choices };
             let to = Buffers { output: &mut output, report: &mut report };
             match call {
                 0 => calls::merge(setting, &first, &second, to),
@@ -128,7 +128,7 @@ fn calls_on_bytes_keep_to_their_buffers() {
         let call = rng.below(5);
         let answer = ask(call);
         assert!(answer.number == 0 || Refusal::of(answer.number).is_some());
-        assert!(calls::receiver(&first, &second) <= 2);
+        assert!(calls::receiver(choices, &first, &second) <= 2);
         if call < 3 {
             kept(&answer, &output, &report);
         }
@@ -234,7 +234,7 @@ fn values_are_answered_or_refused() {
         if let Ok(other) = UsageMerger::new(&table)
             && rng.one_in(3)
         {
-            merger = other;
+            merger = other.with_choices(rng.choices());
         }
         let (handle, any) = (table.push(TypeLayout::Handle), Type(rng.number()));
         assert_eq!(table.get(handle), Some(&TypeLayout::Handle));
@@ -280,16 +280,34 @@ fn values_round(usage: &QPtrMemUsage) {
     }
 }
 
+/// Where ties go to the first, the usage receives that does where they go to the second and the two
+/// are exchanged.
+#[test]
+fn the_tie_rules_are_each_other_exchanged() {
+    let bench = UsageMerger::new(&Table::bench()).unwrap();
+    let ties = |ties| bench.clone().with_choices(Choices::default().with_ties(ties));
+    let (to_first, to_second) = (ties(Ties::First), ties(Ties::Second));
+    fuzz(0.1, 7, |rng| {
+        let (a, b) = (any_usage(rng), any_usage(rng));
+        let exchanged = to_second.receiver(&b, &a).map(|receiver| match receiver {
+            Receiver::First => Receiver::Second,
+            Receiver::Second => Receiver::First,
+        });
+        assert_eq!(to_first.receiver(&a, &b), exchanged);
+    });
+}
+
 /// The promise: sound usages are never refused with 8 or 9, what comes of them is sound, and as
-/// large as the largest.
+/// large as the largest, whatever is chosen.
 #[test]
 fn sound_usages_keep_their_promise() {
     let table: Table =
         "scalar 4; scalar 4; fields 8 {0:0 4:1}; elements 8 (4, 1, 2); failed; handle"
             .parse()
             .unwrap();
-    let mut merger = UsageMerger::new(&table).unwrap();
+    let merger = UsageMerger::new(&table).unwrap();
     fuzz(0.2, 6, |rng| {
+        let mut merger = merger.clone().with_choices(rng.choices());
         let usages: Vec<QPtrMemUsage> = (0..=rng.below(4))
             .map(|_| {
                 let size = rng.pick(&[0, 4, 8, 8, 16, 24]);

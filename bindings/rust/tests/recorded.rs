@@ -1,101 +1,21 @@
-//! The recorded answers of the Rust, put to the calls on bytes and to `UsageMerger`.
-//!
-//! `differential/README.md` says how the file is laid out.
+//! The recorded answers, put to the calls on bytes and to `UsageMerger`: those of the Rust, and where
+//! something is chosen, those of an independent reading.
 
-use usage_merger::calls::{self, Answer, Buffers, Setting};
+mod records;
+
+use records::{Record, records};
+use usage_merger::calls::{self, Buffers, Setting};
 use usage_merger::{
-    ByteFault, BytesError, Conflict, Error, MergeResult, QPtrMemUsage, QPtrUsage, Receiver,
-    Refusal, Table, Type, UsageMerger, list_from_bytes,
+    ByteFault, BytesError, Choices, Conflict, Error, MergeResult, QPtrMemUsage, QPtrUsage,
+    Receiver, Refusal, Table, Type, UsageMerger, list_from_bytes,
 };
-
-const ANSWERS: &str = concat!(env!("CARGO_MANIFEST_DIR"), "/../../crates/replay/data/answers.bin");
-
-/// What is left of the file.
-struct File(Vec<u8>);
-
-impl File {
-    fn part(&mut self, length: usize) -> Vec<u8> {
-        self.0.drain(..length).collect()
-    }
-
-    fn byte(&mut self) -> u8 {
-        self.part(1)[0]
-    }
-
-    fn four(&mut self) -> u32 {
-        u32::from_le_bytes(self.part(4).try_into().unwrap())
-    }
-
-    fn block(&mut self) -> Vec<u8> {
-        let length = self.four() as usize;
-        self.part(length)
-    }
-
-    fn buffer(&mut self) -> Vec<u8> {
-        let length = self.four() as usize;
-        vec![self.byte(); length]
-    }
-}
-
-struct Record {
-    call: u8,
-    work: usize,
-    ty: u32,
-    offset: u32,
-    table: Vec<u8>,
-    first: Vec<u8>,
-    second: Vec<u8>,
-    output: Vec<u8>,
-    report: Vec<u8>,
-    answer: Answer,
-    usage: Vec<u8>,
-    conflicts: Vec<u8>,
-}
-
-fn records() -> Vec<Record> {
-    let mut file = File(std::fs::read(ANSWERS).expect("the recorded answers can be read"));
-    let count = file.four();
-    let records = (0..count).map(|_| record(File(file.block()))).collect();
-    assert!(file.0.is_empty());
-    records
-}
-
-fn record(mut file: File) -> Record {
-    let (call, work) = (file.byte(), file.four() as usize);
-    let (ty, offset) = (file.four(), file.four());
-    let (table, first, second) = (file.block(), file.block(), file.block());
-    let (output, report) = (file.buffer(), file.buffer());
-    let mut number = || u64::from(file.four());
-    let answer = Answer {
-        number: number(),
-        yes: number(),
-        usage_length: number(),
-        report_length: number(),
-        pairings: number(),
-    };
-    let usage = file.part(answer.usage_length as usize);
-    let conflicts = file.part(answer.report_length as usize);
-    assert!(file.0.is_empty());
-    Record {
-        call,
-        work,
-        ty,
-        offset,
-        table,
-        first,
-        second,
-        output,
-        report,
-        answer,
-        usage,
-        conflicts,
-    }
-}
 
 #[test]
 fn calls_on_bytes_give_the_recorded_answers() {
     let records = records();
-    assert!(records.len() > 2_000);
+    let chosen = records.iter().filter(|record| record.choices != Choices::default()).count();
+    println!("{} calls, {chosen} with choices", records.len());
+    assert!(records.len() - chosen > 2_000 && chosen > 100);
     for (index, record) in records.iter().enumerate() {
         on_bytes(record, index);
     }
@@ -103,13 +23,14 @@ fn calls_on_bytes_give_the_recorded_answers() {
 
 fn on_bytes(record: &Record, index: usize) {
     let Record { call, work, ty, offset, table, first, second, .. } = record;
+    let choices = record.choices;
     if *call == 0 {
-        let received = u64::from(calls::receiver(first, second));
+        let received = u64::from(calls::receiver(choices, first, second));
         return assert_eq!(received, record.answer.number, "record {index}");
     }
     let (mut work, mut output, mut report) =
         (vec![0xee; *work], record.output.clone(), record.report.clone());
-    let setting = Setting { table, work: &mut work };
+    let setting = Setting { table, work: &mut work, choices };
     let to = Buffers { output: &mut output, report: &mut report };
     let answer = match call {
         1 => calls::supports(setting, *ty, *offset, first),
@@ -189,14 +110,14 @@ fn values(record: &Record, expected: &Expected, index: usize) -> Result<bool, By
     if record.call == 0 {
         let first = QPtrMemUsage::from_bytes(&record.first)?;
         let second = QPtrMemUsage::from_bytes(&record.second)?;
-        let merger = UsageMerger::new(&Table::default()).unwrap();
+        let merger = UsageMerger::new(&Table::default()).unwrap().with_choices(record.choices);
         let received = merger.receiver(&first, &second).ok();
         assert!(matches!(expected, Expected::Received(part) if *part == received), "{index}");
         return Ok(received.is_some());
     }
     let table = Table::from_bytes(&record.table)?;
     let asked = match UsageMerger::new(&table) {
-        Ok(mut merger) => ask(&mut merger, record)?,
+        Ok(merger) => ask(&mut merger.with_choices(record.choices), record)?,
         Err(error) => Err(error),
     };
     match (asked, expected) {

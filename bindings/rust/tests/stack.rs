@@ -3,7 +3,7 @@
 
 use std::thread;
 use usage_merger::calls::{Buffers, MOST_NODES, Setting, WORK_AREA, merge};
-use usage_merger::{QPtrMemUsage, QPtrMemUsageKind, Table};
+use usage_merger::{Choices, QPtrMemUsage, QPtrMemUsageKind, Table, Ties};
 
 /// Runs something on a thread with this much stack.
 fn on_stack<T: Send + 'static>(kibibytes: usize, run: impl FnOnce() -> T + Send + 'static) -> T {
@@ -41,19 +41,27 @@ fn a_deep_value_is_written() {
     }
 }
 
-/// The deepest merge that is known: 512 nodes, each of which is one level, and 1,024 types below.
+/// The deepest merges that are known: 512 nodes, each of which is one level, and 1,024 types below.
+/// With ties to the first these are arrays and maps in turn: of arrays alone one side stays whole.
 #[test]
-fn kibibytes_700_are_enough_for_the_deepest_merge() {
+fn kibibytes_700_are_enough_for_the_deepest_merges() {
+    deepest(Ties::Second, |inside| format!("{}{inside}", "A4,4,".repeat(254)));
+    deepest(Ties::First, |inside| {
+        format!("{}{inside}{}", "O4[0:A4,4,".repeat(127), "]".repeat(127))
+    });
+}
+
+fn deepest(ties: Ties, nest: impl Fn(&str) -> String) {
     let wrappers: String = (0..1_023).map(|ty| format!("; fields 4 {{0:{ty}}}")).collect();
     let table: Table = format!("scalar 4{wrappers}").parse().unwrap();
-    let nest = |inside: &str| format!("{}{inside}", "A4,4,".repeat(254)).parse().unwrap();
-    let (first, second): (QPtrMemUsage, QPtrMemUsage) = (nest("D4,1023"), nest("O4[0:O4[0:D4,0]]"));
-    assert_eq!(first.nodes() + second.nodes(), MOST_NODES);
-    let streams = [&first, &second].map(|usage| usage.to_bytes().unwrap());
+    let usages = ["D4,1023", "O4[0:O4[0:D4,0]]"].map(|inside| nest(inside).parse().unwrap());
+    assert_eq!(usages.iter().map(QPtrMemUsage::nodes).sum::<usize>(), MOST_NODES);
+    let streams = usages.map(|usage| usage.to_bytes().unwrap());
     let table = table.to_bytes().unwrap();
     let answer = on_stack(700, move || {
         let (mut work, mut output, mut report) = (vec![0; WORK_AREA], vec![0; 8_192], vec![0; 64]);
-        let setting = Setting { table: &table, work: &mut work };
+        let choices = Choices::default().with_ties(ties);
+        let setting = Setting { table: &table, work: &mut work, choices };
         let to = Buffers { output: &mut output, report: &mut report };
         merge(setting, &streams[0], &streams[1], to)
     });

@@ -6,8 +6,8 @@ pub use rng::Rng;
 use std::num::NonZeroU32;
 use usage_merger::shapes::Handle;
 use usage_merger::{
-    Components, Field, MemTypeLayout, QPtrMemUsage, QPtrMemUsageKind, QPtrUsage, Table, Type,
-    TypeLayout,
+    Choices, Components, Field, MemTypeLayout, QPtrMemUsage, QPtrMemUsageKind, QPtrUsage, Table,
+    Type, TypeLayout,
 };
 
 impl Rng {
@@ -104,6 +104,11 @@ impl Rng {
             1 => QPtrUsage::Handles(Handle::Buffer(self.usage(levels))),
             _ => QPtrUsage::Memory(self.usage(levels)),
         }
+    }
+
+    /// Any choices, each as likely as not.
+    pub fn choices(&mut self) -> Choices {
+        Choices::of(self.draw() as u32)
     }
 
     fn record(&mut self) -> TypeLayout {

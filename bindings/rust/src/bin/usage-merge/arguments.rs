@@ -5,7 +5,7 @@ use crate::ask::{Question, name};
 use std::ffi::OsString;
 use std::path::PathBuf;
 use std::str::FromStr;
-use usage_merger::{NotationError, QPtrUsage, Table};
+use usage_merger::{Choices, NotationError, QPtrUsage, Table, Ties};
 
 pub const HELP: &str = "\
 usage-merge merges usages and shows the merged usage, the conflicts and what it took.
@@ -15,7 +15,11 @@ usage-merge merges usages and shows the merged usage, the conflicts and what it 
     usage-merge --at OFFSET USAGE USAGE       places the second into the first at an offset
 
     --table TABLE   the layout table; document 01's bench table if none is given
-    --frame         writes the frame for the program `merge` to standard output, and nothing else
+    --ties WHO      who receives on a tie of size and strictness, at every level: `first` or `second`;
+                    the second if nobody is named. First is the usage so far in a fold, the element
+                    of an array, and of two entries at one offset the one that is being put in
+    --frame         writes the frame for the program `merge` to standard output, and nothing else; the
+                    program's ties go to the second
     --svg FILE      also draws the usages and the result to a file
     --help          this text
 
@@ -41,6 +45,7 @@ pub struct Arguments {
 #[derive(Default)]
 struct Given {
     table: Option<String>,
+    ties: Option<String>,
     at: Option<String>,
     frame: bool,
     svg: Option<PathBuf>,
@@ -55,13 +60,15 @@ impl Arguments {
             Some(text) => parsed("the table", text)?,
             None => Table::bench(),
         };
+        let ties = given.ties.as_deref().map(ties).transpose()?;
+        let choices = Choices::default().with_ties(ties.unwrap_or_default());
         let at = given.at.as_deref().map(offset).transpose()?;
         let count = given.usages.len();
         let usage =
             |(index, text): (usize, &String)| parsed(&format!("the {} usage", name(index)), text);
         let usages: Vec<QPtrUsage> =
             given.usages.iter().enumerate().map(usage).collect::<Result<_, _>>()?;
-        let question = Question { table, usages, at };
+        let question = Question { table, choices, usages, at };
         if count == 0 {
             return Err(Failure::misused("no usage is given; --help says how"));
         }
@@ -110,6 +117,7 @@ impl Given {
                 "--help" | "-h" => return Ok(None),
                 "--frame" => given.frame = true,
                 "--table" => given.table = Some(text(value()?)?),
+                "--ties" => given.ties = Some(text(value()?)?),
                 "--at" => given.at = Some(text(value()?)?),
                 "--svg" => given.svg = Some(PathBuf::from(value()?)),
                 _ => {
@@ -132,12 +140,20 @@ fn offset(text: &str) -> Result<u32, Failure> {
     let digits = text.trim();
     let all_digits = !digits.is_empty() && digits.bytes().all(|byte| byte.is_ascii_digit());
     let number = if all_digits { digits.parse().ok() } else { None };
-    number.ok_or_else(|| {
-        Failure::misused(format!(
-            "--at: expected a number of at most 4294967295\n  {}\n  ^",
-            digits.replace(char::is_control, " ")
-        ))
-    })
+    number.ok_or_else(|| unexpected("--at: expected a number of at most 4294967295", digits))
+}
+
+fn ties(text: &str) -> Result<Ties, Failure> {
+    match text.trim() {
+        "first" => Ok(Ties::First),
+        "second" => Ok(Ties::Second),
+        other => Err(unexpected("--ties: expected `first` or `second`", other)),
+    }
+}
+
+/// What was expected of an option, above what it was given.
+fn unexpected(expected: &str, given: &str) -> Failure {
+    Failure::misused(format!("{expected}\n  {}\n  ^", given.replace(char::is_control, " ")))
 }
 
 /// Reads something, or shows where it is wrong.

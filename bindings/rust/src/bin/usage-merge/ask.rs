@@ -1,10 +1,13 @@
 //! What is asked, and the library's answer to it.
 
-use usage_merger::{Error, MergeResult, QPtrMemUsage, QPtrUsage, Receiver, Table, UsageMerger};
+use usage_merger::{
+    Choices, Error, MergeResult, QPtrMemUsage, QPtrUsage, Receiver, Table, Ties, UsageMerger,
+};
 
 /// What the command line asks for.
 pub struct Question {
     pub table: Table,
+    pub choices: Choices,
     /// One at least. All are memories unless two are merged.
     pub usages: Vec<QPtrUsage>,
     /// Where the second is placed, if it is.
@@ -19,7 +22,14 @@ pub struct Answer {
     pub result_sound: bool,
     /// Of two usages that are merged: which receives. Nothing is merged where they are handles, or
     /// a handle and a memory.
-    pub receiver: Option<Receiver>,
+    pub received: Option<Received>,
+}
+
+/// Which of two usages receives, and whether the tie rule decided it.
+#[derive(Clone, Copy)]
+pub struct Received {
+    pub receiver: Receiver,
+    pub tied: bool,
 }
 
 impl Question {
@@ -34,15 +44,15 @@ impl Question {
     }
 
     pub fn ask(&self) -> Result<Answer, Error> {
-        let mut merger = UsageMerger::new(&self.table)?;
+        let mut merger = UsageMerger::new(&self.table)?.with_choices(self.choices);
         let result = self.merged(&mut merger)?;
         let sound = self.sound(&mut merger)?;
         let result_sound = is_sound(&mut merger, &result.merged)?;
-        let receiver = match (&self.usages[..], self.at) {
+        let received = match (&self.usages[..], self.at) {
             ([first, second], None) => received(&merger, first, second)?,
             _ => None,
         };
-        Ok(Answer { result, sound, result_sound, receiver })
+        Ok(Answer { result, sound, result_sound, received })
     }
 
     fn merged(&self, merger: &mut UsageMerger) -> Result<MergeResult<QPtrUsage>, Error> {
@@ -73,12 +83,18 @@ fn received(
     merger: &UsageMerger,
     first: &QPtrUsage,
     second: &QPtrUsage,
-) -> Result<Option<Receiver>, Error> {
+) -> Result<Option<Received>, Error> {
     let alike = matches!(first, QPtrUsage::Memory(_)) == matches!(second, QPtrUsage::Memory(_));
-    match (first.mem(), second.mem()) {
-        (Some(first), Some(second)) if alike => Ok(Some(merger.receiver(first, second)?)),
-        _ => Ok(None),
-    }
+    let (Some(first), Some(second), true) = (first.mem(), second.mem(), alike) else {
+        return Ok(None);
+    };
+    let receiver = merger.receiver(first, second)?;
+    // It is a tie if the other rule has the other receive.
+    let choices = merger.choices();
+    let other = if choices.ties == Ties::First { Ties::Second } else { Ties::First };
+    let otherwise = merger.clone().with_choices(choices.with_ties(other));
+    let tied = otherwise.receiver(first, second)? != receiver;
+    Ok(Some(Received { receiver, tied }))
 }
 
 /// What a usage is called, by its place in the command line.

@@ -13,7 +13,7 @@ use ask::Question;
 use std::io::{self, Write};
 use std::process::ExitCode;
 use std::{env, fs};
-use usage_merger::Error;
+use usage_merger::{Choices, Error};
 
 /// Why there is nothing to show: what to say, and the exit status.
 struct Failure {
@@ -88,6 +88,11 @@ fn frame(question: &Question) -> Result<Vec<u8>, Failure> {
     };
     if question.at.is_some() {
         return Err(Failure::misused("--frame goes without --at: the program merges"));
+    }
+    if question.choices != Choices::default() {
+        return Err(Failure::misused(
+            "--frame goes without --ties first: the program has no choices",
+        ));
     }
     let mut bytes = Vec::new();
     let failed = |error| Failure::refused(Error::Value(error).to_string());

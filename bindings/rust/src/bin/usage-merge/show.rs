@@ -1,11 +1,11 @@
 //! Answers and refusals in words.
 
-use crate::ask::{Answer, Question, name};
+use crate::ask::{Answer, Question, Received, name};
 use std::fmt::Write;
 use usage_merger::shapes::Handle;
 use usage_merger::{
-    Conflict, Error, QPtrMemUsage, QPtrMemUsageKind, QPtrUsage, Receiver, Refusal, Table, Type,
-    UsageMerger,
+    Choices, Conflict, Error, QPtrMemUsage, QPtrMemUsageKind, QPtrUsage, Receiver, Refusal, Table,
+    Ties, Type, UsageMerger,
 };
 
 /// A number of things.
@@ -40,7 +40,8 @@ fn usages(text: &mut String, question: &Question, answer: &Answer) {
         lines.push((name(index), usage, notes(question, answer, index, *sound)));
     }
     let merged = &answer.result.merged;
-    let merged_notes = format!("{}, {}", soundness(merged, answer.result_sound), nodes(merged));
+    let (sound, chosen) = (soundness(merged, answer.result_sound), chosen(question.choices));
+    let merged_notes = format!("{sound}, {}{chosen}", nodes(merged));
     lines.push((verb(question).into(), merged, merged_notes));
     let written: Vec<String> = lines.iter().map(|(_, usage, _)| usage.to_string()).collect();
     let wide = written.iter().map(String::len).max().unwrap_or(0).min(WIDEST);
@@ -61,14 +62,33 @@ fn verb(question: &Question) -> &'static str {
 fn notes(question: &Question, answer: &Answer, index: usize, sound: bool) -> String {
     let Some(usage) = question.usages.get(index) else { return String::new() };
     let mut notes = vec![soundness(usage, sound).to_string(), nodes(usage)];
-    match (answer.receiver, index) {
-        (Some(Receiver::First), 0) | (Some(Receiver::Second), 1) => notes.push("receives".into()),
-        _ => {}
+    if let Some(Received { receiver, tied }) = answer.received
+        && index == usize::from(receiver == Receiver::Second)
+    {
+        notes.push(match tied {
+            true => format!("receives: a tie, and {}", tie_rule(question.choices.ties)),
+            false => "receives".into(),
+        });
     }
     if let (Some(offset), 1) = (question.at, index) {
         notes.push(format!("at {offset}"));
     }
     notes.join(", ")
+}
+
+fn tie_rule(ties: Ties) -> &'static str {
+    match ties {
+        Ties::First => "ties go to the first",
+        Ties::Second => "ties go to the second",
+    }
+}
+
+/// What was chosen, behind a comma, where it is not what the source does.
+pub fn chosen(choices: Choices) -> String {
+    match choices.ties {
+        Ties::Second => String::new(),
+        Ties::First => format!(", {}", tie_rule(Ties::First)),
+    }
 }
 
 /// Whether a usage is sound, in a word or two.
@@ -184,7 +204,7 @@ fn limits(text: &mut String, question: &Question, answer: &Answer) {
     let unsound: Vec<String> = unsound(&answer.sound);
     let promise = if question.at.is_some() {
         "placing at an offset may be refused with 8 or 9, of sound usages too".into()
-    } else if question.merges_tops() && answer.receiver.is_none() {
+    } else if question.merges_tops() && answer.received.is_none() {
         "nothing is merged: never 8 or 9, and the answer is the first as it stands".into()
     } else if unsound.is_empty() {
         "all usages are sound: never 8 or 9, a sound answer, as large as the largest".into()
