@@ -1,5 +1,6 @@
 #!/usr/bin/env bash
-# The definitions held against the Rust, by computation: recorded and generated calls as theorems, all of which must be proved.
+# The definitions held against the Rust, and with other choices against the reading, by computation: recorded and generated calls as theorems, all
+# of which must be proved.
 # Options (--count N, --seed N) go to the command `theorems`; JUDGE names the harness where it is built already.
 set -euo pipefail
 cd "$(dirname "$0")/.."

@@ -37,8 +37,8 @@ fn numbers(a: Answer) -> [u64; 5]
     ]
 }
 
-// The choices of a call are one number, as `Choices::of` reads it. A call without them is made with 0, and has the one with them compiled into
-// it: a second call takes 4 to 6 in 100 of the time of the smallest.
+// The choices of a call are one number, as `Choices::of` reads it. A call without them is made with 0; the one with them is inlined there, since a
+// call of it would cost the smallest merge 4 to 6 in 100.
 
 // 0 nobody, 1 the first, 2 the second.
 #[inline(always)]
@@ -185,7 +185,7 @@ pub extern "C" fn qptr_fold_with(
     answer: &mut [u64; 5],
 )
     ensures leaves { ReturnsNumbers (fold_call (choices_of choices) table.now (length work.old) list.now output.old (length report.old)) answer.new output.new report.new }
-    ensures leaves_promised { ReturnsPromised table.now list.now answer.new output.new }
+    ensures promised { ReturnsPromised table.now list.now answer.new output.new }
 {
     let choices = Choices::of(choices);
     *answer = numbers(Answer::from(calls::fold(choices, table, work, list, output, report)));

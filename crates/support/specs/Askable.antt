@@ -8,7 +8,7 @@ use Rattle.layout.specs.declared.table.TypeLayout.TheVariants.{Concrete}
 use Rattle.layout.specs.declared.setting.Setting.{Setting as CodeSetting}
 use Rattle.support_cache.specs.Nodes.{UsageAt}
 
--- there is a setting whose table the bytes are, and the type is one of it
+-- some setting is known, and the type is one of its table
 pub record TypeKnown (code : CodeSetting) (ty : ℕ) : Type 0 where
   pub setting : Setting
   pub known : Known code setting

@@ -5,5 +5,5 @@ use Rattle.exports.proofs.qptr_fold_with.Goals as goal
 pub returns-clause-leaves : goal.returns-clause-leaves
 returns-clause-leaves c = left c.numbers.ensures c.from.ensures (rw c.of-choices.ensures at c.fold.ensures.gives)
 
-pub returns-clause-leaves_promised : goal.returns-clause-leaves_promised
-returns-clause-leaves_promised c = kept c.numbers.ensures c.from.ensures c.fold.ensures.promised
+pub returns-clause-promised : goal.returns-clause-promised
+returns-clause-promised c = kept c.numbers.ensures c.from.ensures c.fold.ensures.promised
