@@ -11,7 +11,7 @@ use super::shapes::{
 use super::worst::{Among, STAGES, elements_apart};
 use crate::generate::{Calls, Rng, Source};
 use crate::reading::Reading;
-use crate::reading::calls::Rules;
+use crate::reading::calls::{Given, Rules};
 use crate::reading::faults::Faults;
 use crate::reading::sound::is_sound;
 use crate::reading::streams::read_memory;
@@ -33,7 +33,8 @@ fn generated(source: Source, count: usize) -> Vec<Question> {
 
 /// The layout test's answer as the reading has it.
 fn as_read(q: &Question) -> bool {
-    Reading::FAULTLESS.supports(Choices::default(), &q.table, q.ty, q.at, &q.usage)
+    let given = Given { table: &q.table, choices: Choices::default() };
+    Reading::FAULTLESS.supports(given, q.ty, q.at, &q.usage)
 }
 
 fn plainly(q: &Question) -> Counted {

@@ -17,20 +17,20 @@ pub const WORK_AREA: usize = 49_152;
 /// The most commands 00 to 04 in all inputs together.
 pub const MOST_NODES: usize = 512;
 
+/// What the rules are asked with.
+#[derive(Clone, Copy)]
+pub struct Given<'a> {
+    pub table: &'a Table,
+    pub choices: Choices,
+}
+
 /// The half of the calls that the published Rust has too.
 pub trait Rules {
     fn receiver(&self, choices: Choices, first: &Usage, second: &Usage) -> Receiver;
-    fn supports(
-        &self,
-        choices: Choices,
-        table: &Table,
-        ty: u32,
-        offset: u32,
-        usage: &Usage,
-    ) -> bool;
-    fn place(&self, choices: Choices, table: &Table, a: Usage, d: u32, b: Usage) -> Outcome<Usage>;
-    fn merge(&self, choices: Choices, table: &Table, first: Top, second: Top) -> Outcome<Top>;
-    fn fold(&self, choices: Choices, table: &Table, nodes: Vec<Usage>) -> Outcome<Usage>;
+    fn supports(&self, given: Given<'_>, ty: u32, offset: u32, usage: &Usage) -> bool;
+    fn place(&self, given: Given<'_>, a: Usage, d: u32, b: Usage) -> Outcome<Usage>;
+    fn merge(&self, given: Given<'_>, first: Top, second: Top) -> Outcome<Top>;
+    fn fold(&self, given: Given<'_>, nodes: Vec<Usage>) -> Outcome<Usage>;
 }
 
 /// Answers a call with these rules.
@@ -109,6 +109,10 @@ impl Desk<'_> {
         self.faults.heard(self.call.choices, deaf)
     }
 
+    fn given<'t>(&self, table: &'t Table) -> Given<'t> {
+        Given { table, choices: self.choices() }
+    }
+
     /// The receiving stream, or an empty part exactly where 3, 4 or 7 would be met.
     fn receiver(&self, rules: &impl Rules) -> u64 {
         let Ok(inputs) = self.streams() else { return 0 };
@@ -124,25 +128,23 @@ impl Desk<'_> {
         let Inputs::One(usage) = inputs else { unreachable!("these calls take one stream") };
         Ok(match self.call.kind {
             CallKind::Sound => is_sound(&usage, self.faults),
-            _ => rules.supports(self.choices(), &table, self.call.ty, self.call.offset, &usage),
+            _ => rules.supports(self.given(&table), self.call.ty, self.call.offset, &usage),
         })
     }
 
     /// The merge run to its end: 10 and 11 come after.
     fn merged(&self, rules: &impl Rules) -> Outcome<Vec<u8>> {
         let (table, inputs) = self.admitted()?;
-        let choices = self.choices();
+        let given = self.given(&table);
         match inputs {
             Inputs::Two(first, second) => {
-                let placed = rules.place(choices, &table, first, self.call.offset, second)?;
+                let placed = rules.place(given, first, self.call.offset, second)?;
                 Ok(placed.map(|usage| write_memory(&usage)))
             }
             Inputs::Tops(first, second) => {
-                Ok(rules.merge(choices, &table, first, second)?.map(|top| write_top(&top)))
+                Ok(rules.merge(given, first, second)?.map(|top| write_top(&top)))
             }
-            Inputs::List(nodes) => {
-                Ok(rules.fold(choices, &table, nodes)?.map(|usage| write_memory(&usage)))
-            }
+            Inputs::List(nodes) => Ok(rules.fold(given, nodes)?.map(|usage| write_memory(&usage))),
             Inputs::One(_) => unreachable!("merging calls take more than one usage"),
         }
     }

@@ -20,7 +20,7 @@ pub mod tables;
 
 use crate::side::{Answer, Call, Choices, Side};
 use crate::usage::{Table, Top, Usage};
-use calls::Rules;
+use calls::{Given, Rules};
 use faults::{Fault, Faults};
 pub use refusal::Refusal;
 
@@ -83,7 +83,7 @@ impl Reading {
         Reading { faults: Faults::only(fault) }
     }
 
-    fn setting<'a>(&self, choices: Choices, table: &'a Table) -> Setting<'a> {
+    fn setting<'a>(&self, Given { table, choices }: Given<'a>) -> Setting<'a> {
         Setting { table, choices, faults: self.faults }
     }
 }
@@ -93,27 +93,20 @@ impl Rules for Reading {
         merging::receiver(choices, first, second, self.faults)
     }
 
-    fn supports(
-        &self,
-        choices: Choices,
-        table: &Table,
-        ty: u32,
-        offset: u32,
-        usage: &Usage,
-    ) -> bool {
-        self.setting(choices, table).supports(ty, offset, usage)
+    fn supports(&self, given: Given<'_>, ty: u32, offset: u32, usage: &Usage) -> bool {
+        self.setting(given).supports(ty, offset, usage)
     }
 
-    fn place(&self, choices: Choices, table: &Table, a: Usage, d: u32, b: Usage) -> Outcome<Usage> {
-        self.setting(choices, table).place(a, d, b)
+    fn place(&self, given: Given<'_>, a: Usage, d: u32, b: Usage) -> Outcome<Usage> {
+        self.setting(given).place(a, d, b)
     }
 
-    fn merge(&self, choices: Choices, table: &Table, first: Top, second: Top) -> Outcome<Top> {
-        self.setting(choices, table).merge(first, second)
+    fn merge(&self, given: Given<'_>, first: Top, second: Top) -> Outcome<Top> {
+        self.setting(given).merge(first, second)
     }
 
-    fn fold(&self, choices: Choices, table: &Table, nodes: Vec<Usage>) -> Outcome<Usage> {
-        self.setting(choices, table).fold(nodes)
+    fn fold(&self, given: Given<'_>, nodes: Vec<Usage>) -> Outcome<Usage> {
+        self.setting(given).fold(nodes)
     }
 }
 

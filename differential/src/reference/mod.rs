@@ -9,7 +9,7 @@ pub mod timing;
 mod translate;
 mod watch;
 
-use crate::reading::calls::{self, Rules};
+use crate::reading::calls::{self, Given, Rules};
 use crate::reading::faults::Faults;
 use crate::reading::report::at_node;
 use crate::reading::{Merged, Outcome, Receiver};
@@ -25,7 +25,7 @@ impl Rules for Reference {
     /// `merge_mem` takes the receiver in its midst. It is watched there, while it merges two nodes
     /// of the same sizes and kinds with contents that tell them apart.
     fn receiver(&self, choices: Choices, first: &Usage, second: &Usage) -> Receiver {
-        let cache = layouts(choices, &marks());
+        let cache = layouts(Given { table: &marks(), choices });
         let (first, second) = (marked(first, 0), marked(second, 1));
         let seen = watch::receiver_of(|| {
             // What becomes of the merge does not matter.
@@ -36,28 +36,21 @@ impl Rules for Reference {
         if receiver == second { Receiver::Second } else { Receiver::First }
     }
 
-    fn supports(
-        &self,
-        choices: Choices,
-        table: &Table,
-        ty: u32,
-        offset: u32,
-        usage: &Usage,
-    ) -> bool {
-        let cache = layouts(choices, table);
+    fn supports(&self, given: Given<'_>, ty: u32, offset: u32, usage: &Usage) -> bool {
+        let cache = layouts(given);
         published::supports_usage_at_offset(cache.concrete(ty), offset, &to_published(usage))
     }
 
-    fn place(&self, choices: Choices, table: &Table, a: Usage, d: u32, b: Usage) -> Outcome<Usage> {
-        let cache = layouts(choices, table);
+    fn place(&self, given: Given<'_>, a: Usage, d: u32, b: Usage) -> Outcome<Usage> {
+        let cache = layouts(given);
         let (a, b) = (to_published(&a), to_published(&b));
         let (placed, pairings) = watch::pairings_of(|| published::merge_mem_at(&cache, a, d, b));
         let (usage, conflict) = placed?;
         Ok(Merged { usage: from_published(&usage), report: report_of(conflict), pairings })
     }
 
-    fn merge(&self, choices: Choices, table: &Table, first: Top, second: Top) -> Outcome<Top> {
-        let cache = layouts(choices, table);
+    fn merge(&self, given: Given<'_>, first: Top, second: Top) -> Outcome<Top> {
+        let cache = layouts(given);
         let (first, second) = (top_to_published(&first), top_to_published(&second));
         let (merged, pairings) = watch::pairings_of(|| published::merge(&cache, first, second));
         let (usage, conflict) = merged?;
@@ -65,8 +58,8 @@ impl Rules for Reference {
     }
 
     /// A loop over `merge_mem` that keeps what is merged, conflict or not.
-    fn fold(&self, choices: Choices, table: &Table, nodes: Vec<Usage>) -> Outcome<Usage> {
-        let cache = layouts(choices, table);
+    fn fold(&self, given: Given<'_>, nodes: Vec<Usage>) -> Outcome<Usage> {
+        let cache = layouts(given);
         let mut nodes = nodes.iter().map(to_published).enumerate();
         let (_, mut last) = nodes.next().expect("a list has at least one node");
         let mut report = Vec::new();
@@ -85,10 +78,10 @@ impl Rules for Reference {
     }
 }
 
-/// The layouts of a table, for a question with these choices.
-fn layouts<'a>(choices: Choices, table: &Table) -> LayoutCache<'a> {
-    demand_default(choices);
-    LayoutCache::new(table)
+/// The layouts of what a question is asked with.
+fn layouts<'a>(given: Given<'_>) -> LayoutCache<'a> {
+    demand_default(given.choices);
+    LayoutCache::new(given.table)
 }
 
 /// The published Rust has the default choices built in, and no answer under others.

@@ -4,7 +4,7 @@ use super::Reference;
 use super::published::{self, QPtrMemUsage, QPtrMemUsageKind, WithConflict};
 use super::stand_ins::{LayoutCache, Type};
 use super::translate::to_published;
-use crate::reading::calls::Rules;
+use crate::reading::calls::{Given, Rules};
 use crate::reading::streams::{ARRAY, DIRECT_ACCESS, LIST, MAP, MEMORY, STRICTLY_TYPED, UNUSED};
 use crate::side::Choices;
 use crate::usage::{Table, Usage};
@@ -22,10 +22,10 @@ pub fn time_supports(
     usage: &Usage,
     times: u32,
 ) -> [Duration; 2] {
-    let choices = Choices::default();
+    let given = Given { table, choices: Choices::default() };
     let start = Instant::now();
     for _ in 0..times {
-        black_box(Reference.supports(choices, table, ty, offset, black_box(usage)));
+        black_box(Reference.supports(given, ty, offset, black_box(usage)));
     }
     let whole = start.elapsed();
     let (cache, usage) = (LayoutCache::new(table), to_published(usage));
