@@ -64,6 +64,12 @@ pub rust_receives : (a b : Usage) → first_receives rust a b
 unfolding when◌then◌else◌
 rust_receives a b = refl
 
+abbrev by_bits : ℕ → ℕ → Choices
+by_bits first second = record { ties_to_first = eqb first 1; strict_lookup = eqb second 1 }
+
+bits_alike : {a b c d : ℕ} → a ≡ b → c ≡ d → by_bits a c ≡ by_bits b d
+bits_alike e f = rw (e, f) refl
+
 -- numbers that differ in higher bits alone mean the same
-pub higher_bits : (k n : ℕ) → choices_of (k + 2 * n) ≡ choices_of k
-higher_bits k n = ap (λ bit. record { ties_to_first = eqb bit 1 }) (omega arith)
+pub higher_bits : (k n : ℕ) → choices_of (k + 4 * n) ≡ choices_of k
+higher_bits k n = bits_alike (omega arith) (omega arith)

@@ -35,5 +35,7 @@ pub mod FewPairings
 pub mod ReadsBack
 -- what a choice changes
 pub mod Choices
+pub mod Lookup
+pub mod LookupReports
 -- the worked rows
 pub mod Bench

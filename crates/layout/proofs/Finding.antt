@@ -9,7 +9,7 @@ use Rattle.std.specs.Prelude.{Option, Some, None}
 use lib.ListN.{length, take}
 use Rattle.definitions.specs.Table.{Table as Layouts, Setting, concrete, layout_of, admitted}
 use Rattle.layout.specs.Values.{parts_of, layout_in, Formed, FormedParts}
-use Rattle.layout.specs.Located.{AllLocated, InTable, LayoutIs}
+use Rattle.layout.specs.Located.{AllLocated, Known, InTable, LayoutIs}
 use Rattle.layout.specs.Containing.{containing_from, Next, From, InElements, FieldType, FieldsInTable, InFields, Finds}
 use Rattle.layout.specs.declared.table.Components.{Components}
 use Rattle.layout.specs.declared.table.Components.TheVariants.{Elements, Fields}
@@ -18,6 +18,7 @@ use Rattle.layout.specs.declared.table.TypeLayout.TheVariants.{Concrete}
 use Rattle.layout.specs.declared.table.Array.{Array}
 use Rattle.layout.specs.declared.containment.Component.{Component}
 use Rattle.layout.specs.declared.table.FieldList.{FieldList}
+use Rattle.layout.specs.declared.setting.Setting.{Setting as CodeSetting}
 use Rattle.layout.specs.declared.table.Table.{Table}
 use Rattle.layout.proofs.Parts.{first_in_lem, field_concrete}
 
@@ -38,14 +39,16 @@ module _ {t : Table} {ty : ℕ} {r : TypeLayout} {size d : ℕ} {cs v : Componen
   parts_admitted : (ls : Layouts) → AllLocated t ls → ty < length ls → admitted (take ty ls) (concrete size d (parts_of t.bytes.now v)) ≡ true
   parts_admitted ls p h = rw (layout_known ls p h) (p ty h).admits
 
-  pub finds : {from s e : ℕ} (a : Option Component) → From (λ c. c < ty) a →
-      ((st : Setting) → AllLocated t st.table → ty < length st.table → Next (containing_from st (parts_of t.bytes.now v) s e) from a) → Finds t ty from s e a
+module _ {code : CodeSetting} {ty : ℕ} {r : TypeLayout} {size d : ℕ} {cs v : Components} (l : LayoutIs code.table ty r)
+    (y : r ≡ Concrete size d cs) (y' : cs ≡ v) where
+  finds : {from s e : ℕ} (a : Option Component) → From (λ c. c < ty) a →
+      ((st : Setting) → Known code st → ty < length st.table → Next (containing_from st (parts_of code.table.bytes.now v) s e) from a) → Finds code ty from s e a
   finds {from} {s} {e} a below f = record {
     earlier = below;
-    is = λ st p h n d' cs' x.
-        let z : concrete size d (parts_of t.bytes.now v) ≡ concrete n d' cs' = layout_known st.table p h ∙ x in
-        let u : parts_of t.bytes.now v ≡ cs' = cc in
-        rw u at (f st p h);
+    is = λ st k h n d' cs' x.
+        let z : concrete size d (parts_of code.table.bytes.now v) ≡ concrete n d' cs' = layout_known l y y' st.table k.placed h ∙ x in
+        let u : parts_of code.table.bytes.now v ≡ cs' = cc in
+        rw u at (f st k h);
   }
 
 module _ {t : Table} {ty : ℕ} {r : TypeLayout} {size d : ℕ} {b : Array} {cs : Components} (w : InTable t ty) (l : LayoutIs t ty r)
@@ -62,10 +65,12 @@ module _ {t : Table} {ty : ℕ} {r : TypeLayout} {size d : ℕ} {b : Array} {cs 
   pub element_type : InTable t b.elem
   element_type = record { layouts = w.layouts; placed = w.placed; below = (element_in w.layouts w.placed w.below).1 }
 
-  pub finds_element : {from s e : ℕ} {a : Option Component} → from ≡ 0 → InElements t b s e a → Finds t ty from s e a
+module _ {code : CodeSetting} {ty : ℕ} {r : TypeLayout} {size d : ℕ} {b : Array} {cs : Components} (w : InTable code.table ty)
+    (l : LayoutIs code.table ty r) (y : r ≡ Concrete size d cs) (y' : cs ≡ Elements b) where
+  pub finds_element : {from s e : ℕ} {a : Option Component} → from ≡ 0 → InElements code b s e a → Finds code ty from s e a
   finds_element {from} {s} {e} {a} z h =
-      finds l y y' a (from_known a (λ c x. rw x element_below) h.type)
-      λ st p k. rw z (h.is st (p b.elem (element_in st.table p k).1))
+      finds l y y' a (from_known a (λ c x. rw x (element_below w l y y')) h.type)
+      λ st k below. rw z (h.is st k (element_in w l y y' st.table k.placed below).1)
 
 module _ {t : Table} {ty : ℕ} {r : TypeLayout} {size d : ℕ} {fs : FieldList} {cs : Components} (w : InTable t ty) (l : LayoutIs t ty r)
     (y : r ≡ Concrete size d cs) (y' : cs ≡ Fields fs) where
@@ -79,7 +84,9 @@ module _ {t : Table} {ty : ℕ} {r : TypeLayout} {size d : ℕ} {fs : FieldList}
     types = λ c f. record { layouts = w.layouts; placed = w.placed; below = (field_in w.layouts w.placed w.below f).1 };
   }
 
-  pub finds_field : {from s e : ℕ} {a : Option Component} → InFields t fs from s e a → Finds t ty from s e a
+module _ {code : CodeSetting} {ty : ℕ} {r : TypeLayout} {size d : ℕ} {fs : FieldList} {cs : Components} (w : InTable code.table ty)
+    (l : LayoutIs code.table ty r) (y : r ≡ Concrete size d cs) (y' : cs ≡ Fields fs) where
+  pub finds_field : {from s e : ℕ} {a : Option Component} → InFields code.table fs from s e a → Finds code ty from s e a
   finds_field {a = a} h =
-      finds l y y' a (from_known a (λ c f. (field_in w.layouts w.placed w.below f).0) h.type)
-      λ st p k. h.is st λ c f. p c (field_in st.table p k f).1
+      finds l y y' a (from_known a (λ c f. (field_in w l y y' w.layouts w.placed w.below f).0) h.type)
+      λ st k below. h.is st λ c f. k.placed c (field_in w l y y' st.table k.placed below f).1

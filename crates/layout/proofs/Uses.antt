@@ -29,7 +29,7 @@ pub known : {code : CodeSetting} {s starts : List ℕ} {n : ℕ} → (f : Found 
     → Known code (record { table = f.layouts; choices = choices_in code.choices })
 known {code} f h = record { read = rw h.bytes f.is; placed = f.placed code.table h; chosen = refl }
 
-module _ {t : Table} {ty from s e : ℕ} {r : Option Component} {c : Component} (f : Finds t ty from s e r) (y : r ≡ Some c) where
+module _ {code : CodeSetting} {ty from s e : ℕ} {r : Option Component} {c : Component} (f : Finds code ty from s e r) (y : r ≡ Some c) where
   -- so that asking a component ends
   pub component_below : c.ty < ty
   component_below = rw y at f.earlier

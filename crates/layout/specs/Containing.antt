@@ -6,9 +6,10 @@ use Rattle.definitions.specs.Table.{Table as Layouts, Setting, Components as Par
 use Rattle.definitions.specs.Containment.{Inside, in_elements, in_fields}
 use Rattle.numbers.specs.Words.{word}
 use Rattle.layout.specs.Bytes.{fields_at}
-use Rattle.layout.specs.Located.{Located, AllLocated, InTable}
+use Rattle.layout.specs.Located.{Located, Known, InTable}
 use Rattle.layout.specs.declared.table.Array.{Array}
 use Rattle.layout.specs.declared.containment.Component.{Component}
+use Rattle.layout.specs.declared.setting.Setting.{Setting as CodeSetting}
 use Rattle.layout.specs.declared.table.Field.{Field}
 use Rattle.layout.specs.declared.table.FieldList.{FieldList}
 use Rattle.layout.specs.declared.table.Table.{Table}
@@ -33,11 +34,11 @@ Next from i None = from i ≡ []
 abbrev pub From : (ℕ → Type 0) → Option Component → Type 0
 From P r = IfSome r (λ c. P c.ty)
 
--- The parts of a layout. What is said holds of every setting whose records stand in the table t.
+-- The parts of a layout. What is said holds of every setting that the code's stands for, and of fields by any choices.
 
-pub record InElements (t : Table) (a : Array) (s e : ℕ) (r : Option Component) : Type 0 where
+pub record InElements (code : CodeSetting) (a : Array) (s e : ℕ) (r : Option Component) : Type 0 where
   pub type : From (λ c. c ≡ a.elem) r
-  pub is : (st : Setting) → Located t st.table a.elem → Next (containing_from st (elements a.stride a.elem a.len) s e) 0 r
+  pub is : (st : Setting) → Known code st → a.elem < length st.table → Next (containing_from st (elements a.stride a.elem a.len) s e) 0 r
 
 -- a field contains the range
 pub record Contains (t : Table) (f : Field) (s e : ℕ) (r : Bool) : Type 0 where
@@ -62,7 +63,7 @@ pub record InFields (t : Table) (fs : FieldList) (from s e : ℕ) (r : Option Co
 
 -- A whole layout. A component's type is an earlier one.
 
-pub record Finds (t : Table) (ty from s e : ℕ) (r : Option Component) : Type 0 where
+pub record Finds (code : CodeSetting) (ty from s e : ℕ) (r : Option Component) : Type 0 where
   pub earlier : From (λ c. c < ty) r
-  pub is : (st : Setting) → AllLocated t st.table → ty < length st.table →
+  pub is : (st : Setting) → Known code st → ty < length st.table →
       (n d : ℕ) (cs : Parts) → layout_of st.table ty ≡ concrete n d cs → Next (containing_from st cs s e) from r

@@ -1,13 +1,15 @@
 // Which components of a type contain a range.
 ghost use Rattle.std.specs.Prelude.{◌≡◌, ◌<◌};
 ghost use Rattle.definitions.specs.Containment.{end_of, at_length, element_size};
+ghost use Rattle.qptr.specs.Choices.{choices_in};
 ghost use Rattle.qptr.specs.Values.{size_of};
 ghost use Rattle.layout.specs.Located.{InTable};
 ghost use Rattle.layout.specs.Containing.{size_in, InElements, Contains, FieldsInTable, InFields, Finds};
 
 use crate::format::field_at;
+use crate::setting::Setting;
 use crate::table::{Array, Components, Field, FieldList, Table, TypeLayout};
-use qptr::MaxSize;
+use qptr::{Choices, Lookup, MaxSize};
 
 // The next component that contains a range: its type, the offset that remains in it, and the index to go on from.
 #[derive(Clone, Copy)]
@@ -27,42 +29,31 @@ pub fn end_of(start: u32, size: MaxSize) -> u32
     }
 }
 
-// What an array contains at its length: an element of size 0.
-fn at_length() -> Option<u32>
-    ensures { size_in result ≡ at_length }
+// What an array contains at its length: an element of size 0, or nothing. The lookup is asked here alone.
+fn at_length(choices: Choices) -> Option<u32>
+    ensures { size_in result ≡ at_length (choices_in choices) }
 {
-    Some(0)
+    match choices.lookup {
+        Lookup::Lenient => Some(0),
+        Lookup::Strict => None,
+    }
 }
 
 // The size of the element at an index, where a component has this size and the array this length (0 = none).
-fn element_size(size: u32, len: u32, index: u32) -> Option<u32>
-    ensures { size_in result ≡ element_size size len index }
+fn element_size(choices: Choices, size: u32, len: u32, index: u32) -> Option<u32>
+    ensures { size_in result ≡ element_size (choices_in choices) size len index }
 {
     if len == 0 || index < len {
         return Some(size);
     }
-    if index == len { at_length() } else { None }
+    if index == len {
+        at_length(choices)
+    } else {
+        None
+    }
 }
 
 impl Table<'_> {
-    // The element that contains the range. There is at most one, so the index to go on from is past it.
-    pub fn in_elements(&self, array: Array, start: u32, end: u32) -> Option<Component>
-        requires { (0 < array.stride) × InTable self.now array.elem }
-        ensures { InElements self.now array start end result }
-    {
-        let index = start / array.stride;
-        let from = index * array.stride;
-        let size = element_size(self.fixed_size(array.elem), array.len, index)?;
-        if from.checked_add(size)? < end {
-            return None;
-        }
-        Some(Component {
-            ty: array.elem,
-            rest: start % array.stride,
-            next: 1,
-        })
-    }
-
     // Does the field contain the range? A dynamic one has no end.
     fn field_contains(&self, field: Field, start: u32, end: u32) -> bool
         requires { InTable self.now field.ty }
@@ -98,6 +89,27 @@ impl Table<'_> {
         }
         None
     }
+}
+
+impl Setting<'_> {
+    // The element that contains the range. There is at most one, so the index to go on from is past it.
+    pub fn in_elements(&self, array: Array, start: u32, end: u32) -> Option<Component>
+        requires { (0 < array.stride) × InTable self.now.table array.elem }
+        ensures { InElements self.now array start end result }
+    {
+        let index = start / array.stride;
+        let from = index * array.stride;
+        let whole = self.table.fixed_size(array.elem);
+        let size = element_size(self.choices, whole, array.len, index)?;
+        if from.checked_add(size)? < end {
+            return None;
+        }
+        Some(Component {
+            ty: array.elem,
+            rest: start % array.stride,
+            next: 1,
+        })
+    }
 
     // The source's `find_components_containing`: the first component of a type that contains the range, from index `from` on.
     pub fn find_components_containing(
@@ -107,10 +119,10 @@ impl Table<'_> {
         start: u32,
         end: u32,
     ) -> Option<Component>
-        requires { InTable self.now ty }
+        requires { InTable self.now.table ty }
         ensures { Finds self.now ty from start end result }
     {
-        let TypeLayout::Concrete { components, .. } = self.layout_of(ty) else {
+        let TypeLayout::Concrete { components, .. } = self.table.layout_of(ty) else {
             return None;
         };
         match components {
@@ -121,7 +133,7 @@ impl Table<'_> {
                 }
                 None
             }
-            Components::Fields(fields) => self.in_fields(fields, from, start, end),
+            Components::Fields(fields) => self.table.in_fields(fields, from, start, end),
         }
     }
 }

@@ -3,6 +3,8 @@
 use Rattle.std.specs.Prelude.{Bool, true, false}
 use Rattle.definitions.specs.Requests.Choices.{Choices as Chosen}
 use Rattle.qptr.specs.declared.choices.Choices.{Choices}
+use Rattle.qptr.specs.declared.choices.Lookup.{Lookup}
+use Rattle.qptr.specs.declared.choices.Lookup.TheVariants.{Lenient, Strict}
 use Rattle.qptr.specs.declared.choices.Ties.{Ties}
 use Rattle.qptr.specs.declared.choices.Ties.TheVariants.{First, Second}
 
@@ -10,5 +12,9 @@ abbrev pub to_first : Ties → Bool
 to_first Second = false
 to_first First = true
 
+abbrev pub is_strict : Lookup → Bool
+is_strict Lenient = false
+is_strict Strict = true
+
 unfoldable pub choices_in : Choices → Chosen
-choices_in c = record { ties_to_first = to_first c.ties }
+choices_in c = record { ties_to_first = to_first c.ties; strict_lookup = is_strict c.lookup }

@@ -8,7 +8,7 @@ ghost use Rattle.qptr.specs.Values.{size_of, row_of, strictness_of, command_of, 
 
 mod choices;
 
-pub use choices::{Choices, Ties};
+pub use choices::{Choices, Lookup, Ties};
 
 // The source's `max_size`: `Some` is Fixed, `None` is Dynamic. In Rust's order Dynamic is the largest.
 #[derive(Clone, Copy, PartialEq, Eq, PartialOrd, Ord)]

@@ -12,6 +12,7 @@ use Rattle.definitions.specs.Table.{Setting, concrete, scalar, elements, table_o
 use Rattle.definitions.specs.Support.{supports, supports_in}
 use Rattle.definitions.specs.Requests.Choices.{choices_of}
 use Rattle.qptr.specs.Choices.{choices_in}
+use Rattle.qptr.specs.declared.choices.Lookup.TheVariants.{Strict}
 use Rattle.qptr.specs.declared.choices.Ties.TheVariants.{First}
 use Rattle.numbers.specs.Words.{number_at}
 use Rattle.record_links.specs.Standing.{Stands}
@@ -33,11 +34,11 @@ code = record {
     bytes = record { ref_ptr = (0, 0); now = bytes 2 2 ++ first ++ second };
     starts = record { ref_ptr = (0, 0); now = 2 ∷ 11 ∷ [] };
   };
-  choices = record { ties = First };
+  choices = record { ties = First; lookup = Strict };
 }
 
 setting : Setting
-setting = record { table = concrete 4 0 scalar ∷ concrete 16 0 (elements 4 0 4) ∷ []; choices = choices_of 1 }
+setting = record { table = concrete 4 0 scalar ∷ concrete 16 0 (elements 4 0 4) ∷ []; choices = choices_of 3 }
 
 -- a leaf of type 0, as record 1
 asked : Usage

@@ -36,7 +36,7 @@ fn any_component_supports(
 {
     let end = end_of(at, max_size(s, q));
     let mut from = 0;
-    while let Some(component) = setting.table.find_components_containing(ty, from, at, end) {
+    while let Some(component) = setting.find_components_containing(ty, from, at, end) {
         if supports_inside(setting, component.ty, component.rest, s, q, cached, true) {
             return true;
         }

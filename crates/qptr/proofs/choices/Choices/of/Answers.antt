@@ -4,4 +4,4 @@ use Rattle.qptr.proofs.choices.Choices.of.Goals as goal
 
 pub returns : goal.returns
 unfolding choices_in
-returns c = rw c.of.ensures
+returns c = rw (c.of.ensures, c.of-2.ensures)

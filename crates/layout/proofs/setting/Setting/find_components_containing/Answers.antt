@@ -1,7 +1,7 @@
 -- Components are earlier types of the table, so that each may be asked for its size.
 use borrow.Author.Rules.{rules}
 use Rattle.layout.proofs.Finding.{some_stride, element_type, finds_element, field_types, finds_field}
-use Rattle.layout.proofs.table.Table.find_components_containing.Goals as goal
+use Rattle.layout.proofs.setting.Setting.find_components_containing.Goals as goal
 
 pub in_elements-requires : goal.in_elements-requires
 in_elements-requires c = search (some_stride, element_type, rules)

@@ -1,7 +1,7 @@
 -- Where an element has a size, the tests of its end are the definition's.
 use borrow.Author.Rules.{rules}
 use Rattle.layout.proofs.Elements.{element_past_32_bits, ends_before, in_element_lem}
-use Rattle.layout.proofs.table.Table.in_elements.Goals as goal
+use Rattle.layout.proofs.setting.Setting.in_elements.Goals as goal
 
 pub returns-in_err-checked_add : goal.returns-in_err-checked_add
 returns-in_err-checked_add c =
