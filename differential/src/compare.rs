@@ -59,7 +59,7 @@ pub struct Tally {
     /// Occurrences of each command of the report, 30 to 38.
     pub conflicts: [u64; 9],
     /// Calls that would be answered otherwise with the default choices.
-    pub by_choice: u64,
+    pub by_choices: u64,
 }
 
 impl Tally {
@@ -98,9 +98,9 @@ impl fmt::Display for Tally {
         if self.conflicts.iter().any(|count| *count > 0) {
             write!(f, "; reports {}", counts(0x30, &self.conflicts, true))?;
         }
-        if self.by_choice > 0 {
-            let share = 100.0 * self.by_choice as f64 / self.calls as f64;
-            write!(f, "; by the choice {} ({share:.1} in 100)", self.by_choice)?;
+        if self.by_choices > 0 {
+            let share = 100.0 * self.by_choices as f64 / self.calls as f64;
+            write!(f, "; by the choices {} ({share:.1} in 100)", self.by_choices)?;
         }
         Ok(())
     }
@@ -134,11 +134,11 @@ pub fn compare(
     let count = source.share(count);
     for call in Calls::new(kind, source, seed).with(choices).take(count) {
         let answer = compare_one(sides, &call)?;
-        if kind == CallKind::Fold && source.is_sound() {
+        if kind == CallKind::Fold {
             check_promise(&call, &answer);
         }
         tally.add(&answer);
-        tally.by_choice += u64::from(choices_show(&call, &answer));
+        tally.by_choices += u64::from(choices_show(&call, &answer));
     }
     Ok(tally)
 }
@@ -162,17 +162,32 @@ pub fn choices_show(call: &Call, answer: &Answer) -> bool {
     call.choices != default && Reading::FAULTLESS.answer(&call.clone().with(default)) != *answer
 }
 
+/// Those of the call's choices that show, as a number: without one of them, and with the others, it
+/// would be answered otherwise.
+pub fn choices_shown(call: &Call, answer: &Answer) -> u32 {
+    let all = call.choices.number();
+    let made = (0..u32::BITS).map(|bit| 1 << bit).filter(|choice| all & choice != 0);
+    let shows = |choice: &u32| {
+        let without = call.clone().with(Choices::of(all & !choice));
+        Reading::FAULTLESS.answer(&without) != *answer
+    };
+    made.filter(shows).sum()
+}
+
 /// What document 01 promises of a fold over sound nodes, and document 02 under all choices: never 8
-/// or 9; the answer is sound, and its pairings are at most M(M − 1)/2.
+/// or 9; the answer is sound, and its pairings are at most M(M − 1)/2. Whether the nodes are sound.
 ///
 /// # Panics
 /// If the promise is broken, which would be a finding about document 01 itself.
-pub fn check_promise(call: &Call, answer: &Answer) {
+pub fn check_promise(call: &Call, answer: &Answer) -> bool {
+    let nodes = read_list(&call.first, Faults::NONE).unwrap_or_default();
+    if nodes.is_empty() || !nodes.iter().all(|node| is_sound(node, Faults::NONE)) {
+        return false;
+    }
     assert!(!matches!(answer.number, 8 | 9), "a fold of sound nodes is refused:\n{call}");
     if answer.number != 0 {
-        return;
+        return true;
     }
-    let nodes = read_list(&call.first, Faults::NONE).expect("the fold was answered");
     let usage = read_memory(answer.usage(), Faults::NONE).expect("a fold writes a Memory");
     let m: usize = nodes.iter().map(Usage::nodes).sum();
     let sizes = nodes.iter().map(|node| node.size).max();
@@ -180,4 +195,5 @@ pub fn check_promise(call: &Call, answer: &Answer) {
     assert_eq!(sizes, Some(usage.size), "a fold of sound nodes has another size:\n{call}");
     assert!(answer.pairings <= (m * (m - 1) / 2) as u64, "too many pairings:\n{call}");
     assert!(usage.nodes() <= m, "too many nodes:\n{call}");
+    true
 }

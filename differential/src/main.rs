@@ -11,7 +11,7 @@ use differential::questions::{picture, worst};
 use differential::reading::Reading;
 use differential::record::{Recorded, check_coverage, from_bytes, recorded, to_bytes};
 use differential::reference::Reference;
-use differential::rows::{Row, bench, directed, limits, printed_example, ties};
+use differential::rows::{Row, bench, directed, limits, printed_example, with_choices};
 use differential::side::{CallKind, Choices, Side, all_choices, choices_numbered};
 use differential::theorems::{Theorems, small_calls};
 #[cfg(feature = "library")]
@@ -26,8 +26,9 @@ rows                             all worked rows: document 01, reference and rea
 compare [options]                generated calls to two sides
   --sides reference,reading      two of reference, reading, library, part
   --calls supports,place,..      which calls (default: all)
-  --sources sound,unsound,..     which inputs (default: sound,unsound,large,deep,damaged; tied with other choices)
-  --choices 0                    with which choices: numbers such as 0,1, or all (the reference has 0 alone)
+  --sources sound,unsound,..     which inputs (default: sound,unsound,large,deep,damaged; with other choices tied,brink, too)
+  --choices 0                    with which choices: numbers such as 0,3 (1 ties to the first, 2 strict lookup,
+                                 added), or all (the reference has 0 alone)
   --count 10000                  calls in each category (fewer large and deep ones)
   --seed 1
 record PATH                      write the recorded answers
@@ -248,7 +249,7 @@ fn number(word: &str) -> Result<usize, String> {
 
 fn rows() -> Ended {
     let rows = [bench(), vec![printed_example()], directed(), limits()].concat();
-    let with_choices = ties();
+    let with_choices = with_choices();
     let both: [&dyn Side; 2] = [&Reference, &READING];
     let mut broken: Vec<String> = rows.iter().flat_map(|row| broken_by(row, &both)).collect();
     let differing = rows.iter().filter_map(|row| compare_one(both, &row.call).err());

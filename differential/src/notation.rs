@@ -10,7 +10,7 @@ use crate::reading::faults::Faults;
 use crate::reading::report;
 use crate::reading::streams::{read_list, read_memory, read_top};
 use crate::reading::tables::read_table;
-use crate::side::{Answer, Buffer, Call, CallKind, Choices, Ties};
+use crate::side::{Answer, Buffer, Call, CallKind, Choices, Lookup, Ties};
 use crate::usage::{Components, Entry, Field, Kind, Layout, Record, Size, Table, Top, Usage};
 use std::fmt::{self, Display, Formatter, Write};
 
@@ -124,7 +124,8 @@ impl Display for Call {
 /// The choices that are not the default, in words.
 fn not_default(choices: Choices) -> Vec<&'static str> {
     let ties = (choices.ties == Ties::First).then_some("ties to the first");
-    [ties].into_iter().flatten().collect()
+    let lookup = (choices.lookup == Lookup::Strict).then_some("strict lookup");
+    [ties, lookup].into_iter().flatten().collect()
 }
 
 impl Display for Answer {

@@ -2,15 +2,17 @@
 //!
 //! README.md says how the file is laid out.
 
-use crate::compare::{agreed, choices_show, judge};
+use crate::compare::{agreed, choices_shown, judge};
 use crate::generate::{Calls, Source};
 use crate::notation::report_commands;
 use crate::reading::bytes::{Reader, put_four};
 use crate::reading::calls::WORK_AREA;
 use crate::reading::report::{AT_NODE, CONFLICTS};
 use crate::reading::{Reading, Refusal};
-use crate::rows::{Row, bench, directed, limits, printed_example, ties};
-use crate::side::{Answer, Buffer, Call, CallKind, Choices, Side, all_choices, choices_numbered};
+use crate::rows::{Row, bench, directed, limits, printed_example, with_choices};
+use crate::side::{
+    Answer, Buffer, Call, CallKind, Choices, Lookup, Side, Ties, all_choices, choices_numbered,
+};
 use std::collections::{HashMap, HashSet};
 
 /// The seed of the generated calls in the list.
@@ -44,21 +46,21 @@ impl Recorded {
     }
 }
 
-/// The fixed list: all worked rows, then generated calls of every category; and the same once more for
-/// each of the other choices.
+/// The fixed list: all worked rows, then generated calls of every category; then the rows with other
+/// choices, generated calls with each of these, and large ones with all choices made.
 pub fn recorded(reference: &dyn Side, reading: &dyn Side) -> Result<Vec<Recorded>, String> {
     let mut list = List { sides: [reference, reading], calls: Vec::new() };
     list.add_rows([bench(), vec![printed_example()], directed(), limits()].concat())?;
     for kind in CallKind::ALL {
         for (source, wanted) in wanted(kind) {
             let calls = Calls::new(kind, source, SEED).take(wanted * 200);
-            list.add_various(calls, wanted, Variety::new(Looks::closely, 40))?;
+            list.add_various(calls, wanted, &mut Variety::new(Looks::closely, 40))?;
         }
     }
-    list.add_rows(ties())?;
-    for choices in all_choices().split_off(1) {
-        list.add_with(choices)?;
-    }
+    list.add_rows(with_choices())?;
+    let others = all_choices().split_off(1);
+    others.iter().try_for_each(|choices| list.add_with(*choices))?;
+    others.last().map_or(Ok(()), |all| list.add_large_with(*all))?;
     Ok(list.calls)
 }
 
@@ -89,7 +91,7 @@ impl List<'_> {
         &mut self,
         calls: impl Iterator<Item = Call>,
         wanted: usize,
-        mut variety: Variety,
+        variety: &mut Variety,
     ) -> Result<(), String> {
         let mut found = 0;
         for call in calls {
@@ -102,21 +104,34 @@ impl List<'_> {
         Ok(())
     }
 
-    /// Adds generated calls with these choices: each end and each conflict from every source, and so
-    /// again where the choices show.
+    /// Adds generated calls with these choices: each end and each conflict, and so again for all
+    /// choices that show in it.
     fn add_with(&mut self, choices: Choices) -> Result<(), String> {
         for kind in CallKind::ALL.into_iter().filter(|kind| kind.takes(choices)) {
-            let generated = |source| Calls::new(kind, source, SEED).with(choices);
-            for source in [Source::Sound, Source::Unsound, Source::Damaged, Source::Tied] {
-                let calls = generated(source).filter(is_small).take(5_000);
-                self.add_various(calls, usize::MAX, Variety::new(Looks::roughly, 1))?;
+            let mut variety = Variety::new(Looks::roughly, 1);
+            for source in SOUGHT {
+                let calls = Calls::new(kind, source, SEED).with(choices);
+                self.add_various(calls.filter(is_small).take(3_000), usize::MAX, &mut variety)?;
             }
-            let large = generated(Source::Large).take(50).filter(is_telling);
-            self.add_various(large, 2, Variety::new(Looks::roughly, 1))?;
+        }
+        Ok(())
+    }
+
+    /// Adds for each kind of call a large one that has too many nodes, and one in which the choices
+    /// show.
+    fn add_large_with(&mut self, choices: Choices) -> Result<(), String> {
+        for kind in CallKind::ALL.into_iter().filter(|kind| kind.takes(choices)) {
+            let large = Calls::new(kind, Source::Large, SEED).with(choices).take(50);
+            let variety = &mut Variety::new(Looks::roughly, 1);
+            self.add_various(large.filter(is_telling), 2, variety)?;
         }
         Ok(())
     }
 }
+
+/// Where calls with choices are looked for: first where the choices show.
+const SOUGHT: [Source; 5] =
+    [Source::Brink, Source::Tied, Source::Unsound, Source::Sound, Source::Damaged];
 
 fn is_small(call: &Call) -> bool {
     call.first.len() + call.second.len() + call.table.len() < 600
@@ -125,7 +140,7 @@ fn is_small(call: &Call) -> bool {
 /// Whether a large call has too many nodes, or its choices show.
 fn is_telling(call: &Call) -> bool {
     let answer = Reading::FAULTLESS.answer(call);
-    answer.number == Refusal::TooManyNodes.number() || choices_show(call, &answer)
+    answer.number == Refusal::TooManyNodes.number() || choices_shown(call, &answer) != 0
 }
 
 /// How many generated calls of a kind are taken from each source.
@@ -156,7 +171,7 @@ struct Looks {
     commands: Vec<u8>,
     /// Up to a few.
     pairings: u64,
-    choices_show: bool,
+    choices_shown: u32,
 }
 
 impl Looks {
@@ -175,7 +190,7 @@ impl Looks {
             yes: answer.yes,
             commands: met.take(commands).collect(),
             pairings: answer.pairings.min(pairings),
-            choices_show: choices_show(call, answer),
+            choices_shown: choices_shown(call, answer),
         }
     }
 }
@@ -215,22 +230,46 @@ fn numbers(kind: CallKind) -> &'static [u64] {
     }
 }
 
-/// What the list must show, with all choices: every end of every call, yes and no, every conflict,
-/// and the choices.
+/// What the list must show with the default choices, and with others: every end of every call, yes
+/// and no, every conflict; and with each of the others every choice made.
 pub fn check_coverage(list: &[Recorded]) -> Result<(), String> {
-    for choices in all_choices() {
-        let made: Vec<_> = list.iter().filter(|one| one.call.choices == choices).collect();
-        let named = |words: String| format!("with choices {}: {words}", choices.number());
-        for kind in CallKind::ALL.into_iter().filter(|kind| kind.takes(choices)) {
-            check_ends(kind, &made).map_err(named)?;
-        }
-        check_conflicts(&made).map_err(named)?;
-        let shown = made.iter().any(|one| choices_show(&one.call, &one.answer));
-        if choices != Choices::default() && !shown {
-            return Err(named("no recorded answer is another one for them".into()));
+    let is_default = |one: &&Recorded| one.call.choices == Choices::default();
+    let (default, others): (Vec<_>, Vec<_>) = list.iter().partition(is_default);
+    for kind in CallKind::ALL {
+        check_ends(kind, &default)?;
+        if kind.takes_choices() {
+            check_ends(kind, &others).map_err(|words| format!("with choices: {words}"))?;
         }
     }
+    check_conflicts(&default)?;
+    check_conflicts(&others).map_err(|words| format!("with choices: {words}"))?;
+    all_choices().into_iter().try_for_each(|choices| check_choices(choices, &others))?;
     check_limits(list)
+}
+
+/// In every kind of call that a choice matters to, some answer is another one without it.
+fn check_choices(choices: Choices, list: &[&Recorded]) -> Result<(), String> {
+    for kind in CallKind::ALL {
+        let made = list.iter().filter(|one| (one.call.kind, one.call.choices) == (kind, choices));
+        let shown = made.map(|one| choices_shown(&one.call, &one.answer));
+        let shown = shown.fold(0, |all, shown| all | shown);
+        let missing = mattering(kind, choices).number() & !shown;
+        if missing != 0 {
+            let number = choices.number();
+            return Err(format!("choices {number}: no recorded {kind} shows {missing}"));
+        }
+    }
+    Ok(())
+}
+
+/// Those of the choices that can matter to a kind of call.
+fn mattering(kind: CallKind, choices: Choices) -> Choices {
+    match kind {
+        CallKind::Receiver => choices.with_lookup(Lookup::default()),
+        CallKind::Supports => choices.with_ties(Ties::default()),
+        CallKind::Place | CallKind::Merge | CallKind::Fold => choices,
+        CallKind::Sound => Choices::default(),
+    }
 }
 
 fn check_ends(kind: CallKind, list: &[&Recorded]) -> Result<(), String> {

@@ -6,7 +6,7 @@ use std::str::FromStr;
 #[path = "../../bindings/rust/src/choices.rs"]
 mod choices;
 
-pub use choices::{Choices, Ties};
+pub use choices::{Choices, Lookup, Ties};
 
 /// All choices that there are, the default first: the numbers up to the first that has a bit no
 /// choice has.

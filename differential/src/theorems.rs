@@ -20,7 +20,8 @@ const ROWS_IN_FILE: usize = 150;
 const LONGEST: usize = 700;
 
 /// Where generated calls come from: the other sources make calls that are too long.
-const SOURCES: [Source; 3] = [Source::Sound, Source::Unsound, Source::Damaged];
+const SOURCES: [Source; 5] =
+    [Source::Sound, Source::Unsound, Source::Damaged, Source::Tied, Source::Brink];
 
 /// What each file of theorems begins with.
 const HEADER: &str = "\

@@ -1,17 +1,32 @@
 //! Calls with other choices than the default: how they are made, who answers them, what is recorded.
 
-use differential::compare::{Category, check_promise, choices_show, compare, judge};
+use differential::compare::{Category, check_promise, choices_show, choices_shown, compare, judge};
 use differential::generate::{Calls, Source};
 use differential::reading::Reading;
-use differential::reading::faults::Fault;
+use differential::reading::faults::{Fault, Faults};
+use differential::reading::sound::is_sound;
+use differential::reading::streams::{read_list, read_top};
 use differential::record::{Recorded, from_bytes, to_bytes};
 use differential::reference::Reference;
-use differential::rows::ties;
-use differential::side::{Call, CallKind, Choices, Side, Ties, all_choices};
+use differential::rows::{Row, lookup, ties};
+use differential::side::{Answer, Call, CallKind, Choices, Lookup, Side, Ties, all_choices};
 use differential::theorems::small_calls;
 
 fn to_first() -> Choices {
     Choices::default().with_ties(Ties::First)
+}
+
+fn strict() -> Choices {
+    Choices::default().with_lookup(Lookup::Strict)
+}
+
+fn both() -> Choices {
+    to_first().with_lookup(Lookup::Strict)
+}
+
+/// What is answered to the call with these choices.
+fn answer_with(call: &Call, choices: Choices) -> Answer {
+    Reading::FAULTLESS.answer(&call.clone().with(choices))
 }
 
 /// A generated call that was not refused, made with these choices.
@@ -23,10 +38,8 @@ fn answered(kind: CallKind, choices: Choices) -> Call {
 
 #[test]
 fn choices_are_numbered_from_the_default_on() {
-    let all = all_choices();
-    assert_eq!(all[0], Choices::default());
-    assert!(all.contains(&to_first()));
-    assert!(all.iter().map(|choices| choices.number()).eq(0..all.len() as u32));
+    assert_eq!(all_choices(), [Choices::default(), to_first(), strict(), both()]);
+    assert!(all_choices().iter().map(|choices| choices.number()).eq(0..4));
 }
 
 /// The inputs are those of the default choices. Only lengths that are made for an answer may be others.
@@ -35,11 +48,13 @@ fn generated_inputs_do_not_depend_on_choices() {
     for kind in CallKind::ALL {
         let calls = |choices| Calls::new(kind, Source::Sound, 5).with(choices).take(500);
         let inputs = |call: &Call| (call.table.clone(), call.first.clone(), call.second.clone());
-        for (one, other) in calls(Choices::default()).zip(calls(to_first())) {
-            assert_eq!(inputs(&one), inputs(&other));
-            assert_eq!(one.choices, Choices::default());
-            let taken = if kind.takes_choices() { to_first() } else { Choices::default() };
-            assert_eq!(other.choices, taken);
+        for choices in all_choices() {
+            for (one, other) in calls(Choices::default()).zip(calls(choices)) {
+                assert_eq!(inputs(&one), inputs(&other));
+                assert_eq!(one.choices, Choices::default());
+                let taken = if kind.takes_choices() { choices } else { Choices::default() };
+                assert_eq!(other.choices, taken);
+            }
         }
     }
 }
@@ -69,14 +84,98 @@ fn ties_decide_often_enough() {
     }
 }
 
+/// Whether all usages of a call are sound.
+fn has_sound_usages(Call { kind, first, second, .. }: &Call) -> bool {
+    if *kind == CallKind::Fold {
+        let nodes = read_list(first, Faults::NONE).expect("a list");
+        return nodes.iter().all(|node| is_sound(node, Faults::NONE));
+    }
+    let tops = [first, second].into_iter().filter_map(|bytes| read_top(bytes, Faults::NONE));
+    tops.into_iter().all(|top| top.node().is_none_or(|node| is_sound(node, Faults::NONE)))
+}
+
+/// In so many of a hundred of these calls the answer is by the strict lookup.
+fn share_of_lookup(calls: &[Call]) -> usize {
+    let shows = |call: &&Call| choices_show(call, &Reading::FAULTLESS.answer(call));
+    100 * calls.iter().filter(shows).count() / calls.len()
+}
+
+#[test]
+fn the_lookup_decides_often_enough() {
+    for kind in [CallKind::Supports, CallKind::Place, CallKind::Merge, CallKind::Fold] {
+        let calls = Calls::new(kind, Source::Brink, 1).with(strict()).take(10_000);
+        let (sound, unsound): (Vec<_>, Vec<_>) = calls.partition(has_sound_usages);
+        let shares = [&sound, &unsound].map(|calls| share_of_lookup(calls));
+        println!(
+            "{kind}: by the lookup {shares:?} in 100 of {} sound calls and others",
+            sound.len()
+        );
+        assert!(sound.len() >= 4_000 && shares.iter().all(|share| *share >= 20), "{shares:?}");
+    }
+}
+
+/// What stands where an array ends is what the Rust says, too, with the default lookup.
+#[test]
+fn the_lenient_lookup_is_the_one_of_the_rust() {
+    for kind in CallKind::ALL {
+        let choices = Choices::default();
+        let category = Category { kind, source: Source::Brink, choices };
+        let compared = compare([&Reference, &Reading::FAULTLESS], category, 5_000, 6);
+        assert_eq!(compared.map_err(|difference| difference.to_string()).err(), None);
+    }
+}
+
+/// The strict lookup finds fewer components, and nothing is supported for want of one.
+#[test]
+fn what_is_supported_strictly_is_supported() {
+    for source in [Source::Brink, Source::Sound, Source::Unsound] {
+        for call in Calls::new(CallKind::Supports, source, 3).take(10_000) {
+            let [lenient, strict] = [Choices::default(), strict()].map(|ch| answer_with(&call, ch));
+            assert!(strict.yes <= lenient.yes && strict.number == lenient.number, "{call}");
+        }
+    }
+}
+
+/// Receiver looks nothing up, and supports meets no tie.
+#[test]
+fn choices_that_do_not_matter_change_nothing() {
+    for source in [Source::Brink, Source::Tied, Source::Sound, Source::Unsound] {
+        for call in Calls::new(CallKind::Receiver, source, 5).take(3_000) {
+            assert_eq!(answer_with(&call, strict()), answer_with(&call, Choices::default()));
+            assert_eq!(answer_with(&call, both()), answer_with(&call, to_first()));
+        }
+        for call in Calls::new(CallKind::Supports, source, 5).take(3_000) {
+            assert_eq!(answer_with(&call, to_first()), answer_with(&call, Choices::default()));
+            assert_eq!(answer_with(&call, both()), answer_with(&call, strict()));
+        }
+    }
+}
+
+/// Some answers are others without either choice, some without one, some without none.
+#[test]
+fn choices_show_one_by_one() {
+    for kind in [CallKind::Merge, CallKind::Fold] {
+        let calls = Calls::new(kind, Source::Brink, 1).with(both()).take(20_000);
+        let mut counts = [0; 4];
+        for call in calls {
+            let shown = choices_shown(&call, &Reading::FAULTLESS.answer(&call));
+            counts[shown as usize] += 1;
+        }
+        println!("{kind}: none, ties, lookup, both: {counts:?}");
+        assert!(counts.iter().all(|count| *count > 0), "{kind}: {counts:?}");
+    }
+}
+
 /// Demand 3, with all choices.
 #[test]
 fn folds_of_sound_nodes_keep_their_promise() {
     for choices in all_choices() {
-        for source in Source::ALL.into_iter().filter(|source| source.is_sound()) {
-            for call in Calls::new(CallKind::Fold, source, 4).with(choices).take(10_000) {
-                check_promise(&call, &Reading::FAULTLESS.answer(&call));
-            }
+        for (source, least) in
+            [(Source::Sound, 10_000), (Source::Tied, 10_000), (Source::Brink, 5_000)]
+        {
+            let calls = Calls::new(CallKind::Fold, source, 4).with(choices).take(10_000);
+            let kept = calls.filter(|call| check_promise(call, &Reading::FAULTLESS.answer(call)));
+            assert!(kept.count() >= least, "{source}");
         }
     }
 }
@@ -88,8 +187,10 @@ fn ties_to_the_first_mirror_the_rust() {
         for call in Calls::new(CallKind::Receiver, source, 1).take(5_000) {
             let (first, second) = (call.second.clone(), call.first.clone());
             let exchanged = Reference.answer(&Call { first, second, ..call.clone() }).number;
-            let number = Reading::FAULTLESS.answer(&call.clone().with(to_first())).number;
-            assert_eq!(number, [0, 2, 1][exchanged as usize], "{call}");
+            for choices in [to_first(), both()] {
+                let number = answer_with(&call, choices).number;
+                assert_eq!(number, [0, 2, 1][exchanged as usize], "{call}");
+            }
         }
     }
 }
@@ -110,7 +211,9 @@ fn nor_is_it_where_a_call_is_refused() {
 #[test]
 fn the_rust_judges_the_default_choices_alone() {
     assert_eq!(judge(Choices::default()).name(), "reference");
-    assert_eq!(judge(to_first()).name(), "reading");
+    for choices in [to_first(), strict(), both()] {
+        assert_eq!(judge(choices).name(), "reading");
+    }
 }
 
 /// The choices stand behind the call's name, and are kept when a difference is shrunk.
@@ -119,6 +222,8 @@ fn choices_are_shown() {
     let shown = |choices| answered(CallKind::Merge, choices).to_string();
     assert!(shown(Choices::default()).starts_with("merge\n"));
     assert!(shown(to_first()).starts_with("merge, ties to the first\n"));
+    assert!(shown(strict()).starts_with("merge, strict lookup\n"));
+    assert!(shown(both()).starts_with("merge, ties to the first, strict lookup\n"));
     let supports = answered(CallKind::Supports, to_first()).to_string();
     let (head, _) = supports.split_once('\n').expect("lines");
     assert!(head.starts_with("supports of type ") && head.ends_with(", ties to the first"));
@@ -129,6 +234,14 @@ fn choices_are_shown() {
     let shown = difference.expect_err("a tie").to_string();
     assert!(shown.starts_with("fold, ties to the first\n"), "{shown}");
     assert!(shown.contains("first   List(U0 | O0[])"), "{shown}");
+}
+
+fn rows_notice(rows: &[Row], faults: &[Fault]) {
+    for &fault in faults {
+        let side = Reading::with(fault);
+        let broken = rows.iter().filter(|row| row.broken_by(&side).is_some()).count();
+        assert!(broken > 0, "no row notices: {}", fault.words());
+    }
 }
 
 /// Each wrong way to ask the tie rule breaks a worked row: asked too seldom, asked where there is no
@@ -148,12 +261,36 @@ fn rows_about_ties_notice_its_faults() {
         Fault::Rule6EqualStartSwapped,
         Fault::FoldNextFirst,
     ];
-    let rows = ties();
-    for fault in faults {
-        let side = Reading::with(fault);
-        let broken = rows.iter().filter(|row| row.broken_by(&side).is_some()).count();
-        assert!(broken > 0, "no row notices: {}", fault.words());
-    }
+    rows_notice(&ties(), &faults);
+}
+
+/// And each wrong way to ask the lookup: asked too seldom, asked where it must not be, one choice
+/// lost for the other.
+#[test]
+fn rows_about_the_lookup_notice_its_faults() {
+    let faults = [
+        Fault::TieNotIfStrict,
+        Fault::ChoicesExchanged,
+        Fault::LookupNeverAsked,
+        Fault::LookupNegated,
+        Fault::LookupNotBySupports,
+        Fault::LookupNotByPlace,
+        Fault::LookupNotByMerge,
+        Fault::LookupNotByFold,
+        Fault::LookupNotByLeaves,
+        Fault::LookupNotByComponents,
+        Fault::LookupNotByEntries,
+        Fault::LookupNotIfFirst,
+        Fault::LookupFixedLenient,
+        Fault::LookupDynamicLenient,
+        Fault::LookupLastElement,
+        Fault::LookupNoLength,
+        Fault::LookupNoLengthAtZero,
+        Fault::LookupEmptyNowhere,
+        Fault::LookupFieldEnds,
+        Fault::LookupArrayEnds,
+    ];
+    rows_notice(&lookup(), &faults);
 }
 
 /// The slip that document 01 names, on a tie the first receives, is what the choice is.
@@ -194,9 +331,12 @@ fn recorded_choices_are_known_ones() {
 /// Every third generated call that becomes a theorem is made with choices, if it takes any.
 #[test]
 fn some_theorems_are_about_choices() {
-    let list = small_calls(600, 3);
-    let with = list.iter().filter(|one| one.call.choices == to_first());
-    let showing = with.clone().filter(|one| choices_show(&one.call, &one.answer));
-    let (with, showing) = (with.count(), showing.count());
-    assert!(with >= 100 && showing >= 10, "{with} with ties to the first, {showing} by ties");
+    let list = small_calls(1_500, 3);
+    for choices in all_choices().split_off(1) {
+        let with = list.iter().filter(|one| one.call.choices == choices);
+        let showing = with.clone().filter(|one| choices_show(&one.call, &one.answer));
+        let (with, showing, number) = (with.count(), showing.count(), choices.number());
+        println!("choices {number}: {with}, and {showing} of them are answered by these");
+        assert!(with >= 100 && showing >= 5, "choices {number}: {with}, showing {showing}");
+    }
 }

@@ -5,8 +5,8 @@ use differential::compare::{Category, compare, compare_one, judge};
 use differential::generate::{Calls, Source};
 use differential::part::{NEITHER, Part, handed, told};
 use differential::reference::Reference;
-use differential::rows::{directed, limits, ties};
-use differential::side::{Answer, Call, CallKind, Choices, Side, Ties};
+use differential::rows::{directed, limits, with_choices};
+use differential::side::{Answer, Call, CallKind, Choices, Side, Ties, all_choices};
 
 /// Generated calls with two equal streams.
 fn alike(choices: Choices) -> Vec<Call> {
@@ -29,7 +29,7 @@ impl Side for Exchanged {
 
 #[test]
 fn worked_rows_hold_for_the_part() {
-    let rows = [directed(), limits(), ties()].concat();
+    let rows = [directed(), limits(), with_choices()].concat();
     let rows = rows.iter().filter(|row| row.call.kind == CallKind::Receiver);
     for row in rows {
         assert_eq!(row.broken_by(&Part), None);
@@ -41,8 +41,9 @@ fn worked_rows_hold_for_the_part() {
 
 #[test]
 fn equal_streams_are_told_apart() {
-    for (ties, said) in [(Ties::Second, (2, 1)), (Ties::First, (1, 2))] {
-        let calls = alike(Choices::default().with_ties(ties));
+    for choices in all_choices() {
+        let said = if choices.ties == Ties::First { (1, 2) } else { (2, 1) };
+        let calls = alike(choices);
         assert!(calls.len() > 1_000, "{} pairs", calls.len());
         for call in calls {
             assert_eq!((Part.answer(&call).number, Exchanged.answer(&call).number), said, "{call}");

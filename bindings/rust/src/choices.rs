@@ -17,6 +17,20 @@ pub enum Ties {
     First,
 }
 
+/// What an array type contains one past its last element: at the index that is its length.
+///
+/// It is asked wherever a type is asked whether it supports a usage: in `supports`, and where a leaf
+/// is merged. Below the length, behind it, and in arrays without one, it changes nothing; nor do the
+/// ends of structs ask for it.
+#[derive(Clone, Copy, Debug, Default, PartialEq, Eq, Hash)]
+pub enum Lookup {
+    /// An element of size 0, as in the source: a place of no bytes, one past the last element.
+    #[default]
+    Lenient,
+    /// Nothing, for drivers that refuse pointers to one past the end.
+    Strict,
+}
+
 /// All choices of a call. The default is what the source does.
 ///
 /// More choices may be added, so one is made of the default: `Choices::default().with_ties(..)`.
@@ -25,10 +39,15 @@ pub enum Ties {
 pub struct Choices {
     /// Who receives on a tie, at every level.
     pub ties: Ties,
+    /// What an array type contains at its length.
+    pub lookup: Lookup,
 }
 
 /// The bit of [`Ties::First`] in the number that the library takes.
 const TIES_TO_FIRST: u32 = 1;
+
+/// The bit of [`Lookup::Strict`].
+const STRICT_LOOKUP: u32 = 2;
 
 impl Choices {
     /// The same with this tie rule.
@@ -37,19 +56,32 @@ impl Choices {
         Choices { ties, ..self }
     }
 
-    /// The choices as the library's one number: 1 for ties to the first.
+    /// The same with this lookup.
+    #[must_use]
+    pub fn with_lookup(self, lookup: Lookup) -> Choices {
+        Choices { lookup, ..self }
+    }
+
+    /// The choices as the library's one number: 1 for ties to the first and 2 for the strict lookup,
+    /// added.
     #[must_use]
     pub fn number(self) -> u32 {
-        match self.ties {
+        let ties = match self.ties {
             Ties::Second => 0,
             Ties::First => TIES_TO_FIRST,
-        }
+        };
+        let lookup = match self.lookup {
+            Lookup::Lenient => 0,
+            Lookup::Strict => STRICT_LOOKUP,
+        };
+        ties | lookup
     }
 
     /// The choices that a number means. Bits that no choice has are not looked at.
     #[must_use]
     pub fn of(number: u32) -> Choices {
         let ties = if number & TIES_TO_FIRST == 0 { Ties::Second } else { Ties::First };
-        Choices { ties }
+        let lookup = if number & STRICT_LOOKUP == 0 { Lookup::Lenient } else { Lookup::Strict };
+        Choices { ties, lookup }
     }
 }

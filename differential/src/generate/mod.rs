@@ -1,5 +1,6 @@
 //! Generated calls: seeded and repeatable.
 
+mod brink;
 mod damage;
 mod large;
 #[path = "../../../bindings/rust/tests/random/rng.rs"]
@@ -36,34 +37,35 @@ pub enum Source {
     Damaged,
     /// Accepted tables and sound usages that tie wherever they meet.
     Tied,
+    /// Accepted tables and usages that stand where an array ends, most of them sound.
+    Brink,
 }
 
 impl Source {
-    pub const ALL: [Source; 6] = [
+    pub const ALL: [Source; 7] = [
         Source::Sound,
         Source::Unsound,
         Source::Large,
         Source::Deep,
         Source::Damaged,
         Source::Tied,
+        Source::Brink,
     ];
 
-    /// Where calls with these choices come from if nothing is said: ties are sought where something
-    /// is chosen.
+    /// Where calls with these choices come from if nothing is said: what choices show in is sought
+    /// where something is chosen.
     pub fn of(choices: Choices) -> Vec<Source> {
-        let sought = |source: &Source| *source != Source::Tied || choices != Choices::default();
+        let seeks = |source: &Source| matches!(source, Source::Tied | Source::Brink);
+        let sought = |source: &Source| !seeks(source) || choices != Choices::default();
         Source::ALL.into_iter().filter(sought).collect()
-    }
-
-    /// Whether all its usages are sound.
-    pub fn is_sound(self) -> bool {
-        matches!(self, Source::Sound | Source::Tied)
     }
 
     /// How many calls a run of so many makes from this source: fewer where each one takes long.
     pub fn share(self, count: usize) -> usize {
         match self {
-            Source::Sound | Source::Unsound | Source::Damaged | Source::Tied => count,
+            Source::Sound | Source::Unsound | Source::Damaged | Source::Tied | Source::Brink => {
+                count
+            }
             Source::Large => count.div_ceil(100),
             Source::Deep => count.div_ceil(50_000),
         }
@@ -79,6 +81,7 @@ impl fmt::Display for Source {
             Source::Deep => "deep",
             Source::Damaged => "damaged",
             Source::Tied => "tied",
+            Source::Brink => "brink",
         })
     }
 }
@@ -120,6 +123,7 @@ impl Calls {
             Source::Unsound => self.small(false),
             Source::Large => self.large(),
             Source::Deep => self.deep(),
+            Source::Brink => self.brink(),
             Source::Damaged => match self.rng.below(40) {
                 0 => self.large(),
                 choice => self.small(choice % 2 == 0),
@@ -188,6 +192,30 @@ impl Calls {
             call.first = large::deep_stream(&mut self.rng, top);
         }
         call
+    }
+
+    /// A usage that has an array's end in it, and another that stands there.
+    fn brink(&mut self) -> Call {
+        let sound = self.rng.one_in(2);
+        let dynamic = sound || self.rng.one_in(2);
+        let table = tables::with_lengths(&mut self.rng, dynamic);
+        let mut maker = Maker { rng: &mut self.rng, table: &table, high: false };
+        let brink = maker.brink(sound);
+        let (ty, offset, usages) = match self.kind {
+            CallKind::Supports => {
+                let (offset, usage) = maker.standing(&brink);
+                (brink.ty, offset, vec![usage])
+            }
+            CallKind::Place => {
+                let brink = maker.deeper(brink);
+                let (offset, b) = maker.standing(&brink);
+                (0, offset, vec![brink.holder, b])
+            }
+            CallKind::Sound => (0, 0, vec![maker.standing(&brink).1]),
+            CallKind::Receiver | CallKind::Merge => (0, 0, maker.pair(brink)),
+            CallKind::Fold => (0, 0, maker.several(brink)),
+        };
+        Call { ty, offset, ..self.of_usages(&table, usages, false) }
     }
 
     /// The call that takes these usages.

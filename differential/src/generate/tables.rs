@@ -14,8 +14,47 @@ pub fn table(rng: &mut Rng, high: bool) -> Table {
     table
 }
 
+/// A table with arrays that have lengths, in other arrays and in fields, too. If `dynamic`, arrays
+/// and most numbers have a dynamic stride besides, so that dynamic usages fit them.
+pub fn with_lengths(rng: &mut Rng, dynamic: bool) -> Table {
+    let mut table = Table::default();
+    let number = |rng: &mut Rng| {
+        let size = rng.pick(&[0, 1, 2, 4, 4, 4, 8]);
+        let dynamic_stride = if dynamic && !rng.one_in(3) { size.max(1) } else { 0 };
+        Layout { size, dynamic_stride, components: Components::Scalar }
+    };
+    table.records.push(Record::Concrete(number(rng)));
+    for index in 0..1 + rng.below(5) {
+        let concrete: Vec<u32> = concrete_types(&table).collect();
+        let kind = if index == 0 { 0 } else { rng.below(6) };
+        let record = match kind {
+            0..=2 => Record::Concrete(array(rng, &table, &concrete, dynamic)),
+            3 => Record::Concrete(fields(rng, &table, &concrete, false)),
+            4 => Record::Concrete(number(rng)),
+            _ => record(rng, &table, false),
+        };
+        table.records.push(record);
+    }
+    table
+}
+
+/// Elements with a length, here and there with a gap between them.
+fn array(rng: &mut Rng, earlier: &Table, concrete: &[u32], dynamic: bool) -> Layout {
+    let ty = rng.pick(concrete);
+    let size = earlier.concrete(ty).map_or(0, |layout| layout.size);
+    let stride = size.max(1).saturating_add(rng.pick(&[0, 0, 0, 4]));
+    let length = rng.pick(&[1, 1, 2, 2, 3, 4]);
+    let dynamic_stride = if dynamic { stride } else { 0 };
+    let components = Components::Elements { stride, ty, length };
+    Layout { size: stride.saturating_mul(length), dynamic_stride, components }
+}
+
+fn concrete_types(table: &Table) -> impl Iterator<Item = u32> + use<'_> {
+    types(table).filter(|&ty| table.concrete(ty).is_some())
+}
+
 fn record(rng: &mut Rng, earlier: &Table, high: bool) -> Record {
-    let concrete: Vec<u32> = types(earlier).filter(|&ty| earlier.concrete(ty).is_some()).collect();
+    let concrete: Vec<u32> = concrete_types(earlier).collect();
     let kind = if concrete.is_empty() { rng.below(5) } else { rng.below(16) };
     let mut layout = match kind {
         0 => return Record::Handle,

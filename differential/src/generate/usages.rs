@@ -133,7 +133,7 @@ impl Maker<'_> {
         (!from.is_empty()).then(|| self.rng.pick(from))
     }
 
-    fn leaf(&mut self, size: Size) -> Usage {
+    pub fn leaf(&mut self, size: Size) -> Usage {
         let kind = match self.leaf_type(size) {
             Some(ty) => Kind::Leaf { strict: self.rng.one_in(4), ty },
             None => Kind::Unused,

@@ -8,7 +8,7 @@ use super::sound::is_sound;
 use super::streams::{read_list, read_memory, read_top, write_memory, write_top};
 use super::tables::read_table;
 use super::{Merged, Outcome, Receiver, Refusal};
-use crate::side::{Answer, Buffer, Call, CallKind, Choices};
+use crate::side::{Answer, Buffer, Call, CallKind, Choices, Lookup, Ties};
 use crate::usage::{Table, Top, Usage};
 
 /// The work area that every call but receiver asks for.
@@ -99,14 +99,33 @@ impl Desk<'_> {
 
     /// The choices that the rules are asked with: the call's, but for a fault.
     fn choices(&self) -> Choices {
-        let deaf = match self.call.kind {
-            CallKind::Receiver => Fault::TieNotByReceiver,
-            CallKind::Place => Fault::TieNotByPlace,
-            CallKind::Merge => Fault::TieNotByMerge,
-            CallKind::Fold => Fault::TieNotByFold,
-            CallKind::Supports | CallKind::Sound => return self.call.choices,
+        let (ties, lookup) = match self.call.kind {
+            CallKind::Receiver => (Some(Fault::TieNotByReceiver), None),
+            CallKind::Supports => (None, Some(Fault::LookupNotBySupports)),
+            CallKind::Place => (Some(Fault::TieNotByPlace), Some(Fault::LookupNotByPlace)),
+            CallKind::Merge => (Some(Fault::TieNotByMerge), Some(Fault::LookupNotByMerge)),
+            CallKind::Fold => (Some(Fault::TieNotByFold), Some(Fault::LookupNotByFold)),
+            CallKind::Sound => (None, None),
         };
-        self.faults.heard(self.call.choices, deaf)
+        let choices = self.combined();
+        let choices = ties.map_or(choices, |deaf| self.faults.heard_of_ties(choices, deaf));
+        lookup.map_or(choices, |deaf| self.faults.heard_of_lookup(choices, deaf))
+    }
+
+    /// All of the call's choices, but for a fault that takes one for another, or loses one where
+    /// another is made.
+    fn combined(&self) -> Choices {
+        let choices = self.call.choices;
+        match (choices.ties, choices.lookup) {
+            (Ties::First, Lookup::Strict) => {
+                let choices = self.faults.heard_of_ties(choices, Fault::TieNotIfStrict);
+                self.faults.heard_of_lookup(choices, Fault::LookupNotIfFirst)
+            }
+            (Ties::First, _) | (_, Lookup::Strict) if self.on(Fault::ChoicesExchanged) => {
+                Choices::of(choices.number() ^ 3)
+            }
+            _ => choices,
+        }
     }
 
     fn given<'t>(&self, table: &'t Table) -> Given<'t> {

@@ -3,7 +3,7 @@
 //! They serve the power check alone: a comparison that does not notice one of them would not notice
 //! it in the port either. The first four are the slips that document 01 names.
 
-use crate::side::Choices;
+use crate::side::{Choices, Lookup, Ties};
 
 /// The fault that is switched on, if any.
 #[derive(Clone, Copy, Debug)]
@@ -20,9 +20,14 @@ impl Faults {
         self.0 == Some(fault)
     }
 
-    /// The choices, or the default where the fault keeps one from hearing of them.
-    pub fn heard(self, choices: Choices, deaf: Fault) -> Choices {
-        if self.on(deaf) { Choices::default() } else { choices }
+    /// The choices, with the default tie rule where the fault keeps the chosen one from being heard.
+    pub fn heard_of_ties(self, choices: Choices, deaf: Fault) -> Choices {
+        if self.on(deaf) { choices.with_ties(Ties::default()) } else { choices }
+    }
+
+    /// The choices, with the default lookup where the fault keeps the chosen one from being heard.
+    pub fn heard_of_lookup(self, choices: Choices, deaf: Fault) -> Choices {
+        if self.on(deaf) { choices.with_lookup(Lookup::default()) } else { choices }
     }
 }
 
@@ -66,10 +71,31 @@ faults! {
     TieAtRootAlone: "the tie rule is asked at the root alone",
     TieTurnsStrictness: "under ties to the first, the less strict of two equal sizes receives",
     TieAnyStrictness: "under ties to the first, equal sizes tie whatever their strictness",
-    TieNotByReceiver: "receiver goes by the default choices",
-    TieNotByPlace: "place goes by the default choices",
-    TieNotByMerge: "merge goes by the default choices",
-    TieNotByFold: "fold goes by the default choices",
+    TieNotByReceiver: "receiver goes by the default tie rule",
+    TieNotByPlace: "place goes by the default tie rule",
+    TieNotByMerge: "merge goes by the default tie rule",
+    TieNotByFold: "fold goes by the default tie rule",
+    TieNotIfStrict: "with the strict lookup ties go by the default rule",
+    ChoicesExchanged: "1 is read as the strict lookup, and 2 as ties to the first",
+
+    LookupNeverAsked: "the lookup is never asked: it is lenient",
+    LookupNegated: "the lookup is strict where it is not chosen, and lenient where it is",
+    LookupNotBySupports: "supports goes by the default lookup",
+    LookupNotByPlace: "place goes by the default lookup",
+    LookupNotByMerge: "merge goes by the default lookup",
+    LookupNotByFold: "fold goes by the default lookup",
+    LookupNotByLeaves: "leaves are merged by the default lookup",
+    LookupNotByComponents: "components are asked by the default lookup",
+    LookupNotByEntries: "a map's entries are looked up by the default lookup",
+    LookupNotIfFirst: "with ties to the first the lookup is the default one",
+    LookupFixedLenient: "the strict lookup refuses dynamic usages alone",
+    LookupDynamicLenient: "the strict lookup refuses usages of fixed size alone",
+    LookupLastElement: "the strict lookup refuses the last element, too",
+    LookupNoLength: "the strict lookup refuses elements without a length",
+    LookupNoLengthAtZero: "the strict lookup refuses the element at 0 where there is no length",
+    LookupEmptyNowhere: "the strict lookup refuses usages of no bytes in every element",
+    LookupFieldEnds: "the strict lookup refuses the ends of fields, too",
+    LookupArrayEnds: "the strict lookup refuses arrays that end at the length",
 
     EightBeforeNine: "8 where d + b is past 32 bits",
     OutgrownKept: "the size assertion is left out",

@@ -25,7 +25,7 @@ pub fn receiver(choices: Choices, first: &Usage, second: &Usage, faults: Faults)
 }
 
 fn ties_to_first(choices: Choices, faults: Faults) -> bool {
-    let asked = faults.heard(choices, Fault::TieNeverAsked);
+    let asked = faults.heard_of_ties(choices, Fault::TieNeverAsked);
     asked.ties == Ties::First || faults.on(Fault::TieToFirst)
 }
 

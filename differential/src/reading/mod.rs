@@ -63,7 +63,13 @@ impl Setting<'_> {
 
     /// The setting of what is merged below the root: the same, but for a fault.
     fn below(&self) -> Self {
-        let choices = self.faults.heard(self.choices, Fault::TieAtRootAlone);
+        let choices = self.faults.heard_of_ties(self.choices, Fault::TieAtRootAlone);
+        Setting { choices, ..*self }
+    }
+
+    /// The same, but for a fault that keeps the lookup from being heard.
+    fn unless_deaf(&self, deaf: Fault) -> Self {
+        let choices = self.faults.heard_of_lookup(self.choices, deaf);
         Setting { choices, ..*self }
     }
 }

@@ -157,7 +157,9 @@ impl Setting<'_> {
                 let told = if self.on(Fault::Rule4FailedTellsA) { own } else { ty };
                 Asked::Ends(report::conflict(report::FAILED, &[told]))
             }
-            _ if self.supports(ty, offset, usage) => Asked::Supports,
+            _ if self.unless_deaf(Fault::LookupNotByLeaves).supports(ty, offset, usage) => {
+                Asked::Supports
+            }
             _ => Asked::No,
         }
     }

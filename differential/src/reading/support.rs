@@ -1,7 +1,8 @@
-//! "Containment and support".
+//! "Containment and support". What the strict lookup changes of them is document 02's.
 
 use super::Setting;
 use super::faults::Fault;
+use crate::side::Lookup;
 use crate::usage::{Components, Entry, Field, Kind, Layout, Size, Usage};
 
 /// A component that contains the range asked for, and the offset that remains within it.
@@ -56,16 +57,18 @@ impl Setting<'_> {
     }
 
     fn component_supports(&self, layout: &Layout, offset: u32, usage: &Usage) -> bool {
-        let end = self.end(offset, usage);
+        let component = self.unless_deaf(Fault::LookupNotByComponents);
         match &layout.components {
             Components::Scalar => false,
             &Components::Elements { stride, ty, length } => self
-                .element_containing(stride, ty, length, offset, end)
-                .is_some_and(|found| self.supports(found.ty, found.remaining, usage)),
+                .element_containing(stride, ty, length, offset, usage)
+                .is_some_and(|found| component.supports(found.ty, found.remaining, usage)),
             Components::Fields(fields) => {
+                let end = self.end(offset, usage);
                 let found = fields.iter().filter(|field| self.field_contains(field, offset, end));
                 let asked = if self.on(Fault::ContainsOnlyFirst) { 1 } else { usize::MAX };
-                found.take(asked).any(|field| self.supports(field.ty, offset - field.offset, usage))
+                let rest = |field: &Field| offset - field.offset;
+                found.take(asked).any(|field| component.supports(field.ty, rest(field), usage))
             }
         }
     }
@@ -76,33 +79,64 @@ impl Setting<'_> {
         ty: u32,
         length: u32,
         start: u32,
-        end: u64,
+        usage: &Usage,
     ) -> Option<Containing> {
         let index = start / stride;
-        let size = self.element_size(ty, index, length)?;
+        let end = self.end(start, usage);
+        if self.is_strict_with(Fault::LookupEmptyNowhere) && end == u64::from(start) {
+            return None;
+        }
+        let size = match index == length && length != 0 {
+            true => self.size_at_length(ty, usage)?,
+            false => self.element_size(ty, index, length)?,
+        };
         let element_end = (index * stride).checked_add(size)?;
         let remaining = if self.on(Fault::SupportsElementAtS) { start } else { start % stride };
         (end <= u64::from(element_end)).then_some(Containing { ty, remaining })
     }
 
-    /// How far the element at an index reaches: below the length its size, at the length 0, above
-    /// it nothing.
+    /// How far the element at an index reaches that is not the length: below the length, or without
+    /// one, its size, above it nothing.
     fn element_size(&self, ty: u32, index: u32, length: u32) -> Option<u32> {
+        let last = length.checked_sub(1) == Some(index);
+        let refused = (last && self.is_strict_with(Fault::LookupLastElement))
+            || (length == 0 && self.is_strict_with(Fault::LookupNoLength))
+            || (length == index && self.is_strict_with(Fault::LookupNoLengthAtZero));
+        let reached = length == 0 || index < length || self.on(Fault::ContainsPastLength);
         let size = self.table.concrete(ty)?.size;
-        if length == 0 || index < length || self.on(Fault::ContainsPastLength) {
-            Some(size)
-        } else if index == length {
-            Some(if self.on(Fault::ContainsFullAtLength) { size } else { 0 })
-        } else {
-            None
+        (reached && !refused).then_some(size)
+    }
+
+    /// At the length stands an element of size 0, or with the strict lookup nothing. The lookup is
+    /// asked here and nowhere else.
+    fn size_at_length(&self, ty: u32, usage: &Usage) -> Option<u32> {
+        let let_through = match usage.size {
+            Size::Fixed(_) => self.on(Fault::LookupFixedLenient),
+            Size::Dynamic => self.on(Fault::LookupDynamicLenient),
+        };
+        if self.is_strict() && !let_through {
+            return None;
         }
+        let full = self.on(Fault::ContainsFullAtLength) || self.on(Fault::ContainsPastLength);
+        Some(if full { self.table.concrete(ty)?.size } else { 0 })
+    }
+
+    fn is_strict(&self) -> bool {
+        let asked = self.unless_deaf(Fault::LookupNeverAsked);
+        (asked.choices.lookup == Lookup::Strict) != self.on(Fault::LookupNegated)
+    }
+
+    /// Whether a fault of the strict lookup alone shows.
+    fn is_strict_with(&self, fault: Fault) -> bool {
+        self.on(fault) && self.is_strict()
     }
 
     fn field_contains(&self, field: &Field, start: u32, end: u64) -> bool {
         let Some(layout) = self.table.concrete(field.ty) else { return false };
         let open = layout.dynamic_stride != 0 && !self.on(Fault::ContainsDynamicEnds);
         let field_end = u64::from(field.offset) + u64::from(layout.size);
-        field.offset <= start && (open || end <= field_end)
+        let refused = self.is_strict_with(Fault::LookupFieldEnds) && u64::from(start) == field_end;
+        field.offset <= start && (open || end <= field_end) && !refused
     }
 
     /// What is left when no component supports the usage.
@@ -134,7 +168,8 @@ impl Setting<'_> {
             return self.supports(ty, 0, &entry.node);
         }
         let whole = self.on(Fault::SupportsMapWhole) && self.supports(ty, sum, &entry.node);
-        whole || self.component_supports(layout, sum, &entry.node)
+        let looked_up = self.unless_deaf(Fault::LookupNotByEntries);
+        whole || looked_up.component_supports(layout, sum, &entry.node)
     }
 
     fn array_supported(
@@ -153,7 +188,7 @@ impl Setting<'_> {
         equal
             && divisible
             && self.lengths_agree(offset, size, stride, length)
-            && self.supports(ty, 0, element)
+            && self.unless_deaf(Fault::LookupNotByComponents).supports(ty, 0, element)
     }
 
     /// Size dynamic with no length, or divisible and non-zero, and ending at the length.
@@ -165,6 +200,7 @@ impl Setting<'_> {
         let non_zero = size != 0 || self.on(Fault::SupportsArrayOfZero);
         let end = u64::from(offset / stride) + u64::from(size / stride);
         let shorter = self.on(Fault::SupportsArrayShorter) && end < u64::from(length);
-        length != 0 && divisible && non_zero && (end == u64::from(length) || shorter)
+        let equal = end == u64::from(length) && !self.is_strict_with(Fault::LookupArrayEnds);
+        length != 0 && divisible && non_zero && (equal || shorter)
     }
 }

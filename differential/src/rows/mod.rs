@@ -3,11 +3,18 @@
 
 mod directed;
 mod limits;
+mod lookup;
 mod ties;
 
 pub use directed::directed;
 pub use limits::limits;
+pub use lookup::{decided_by_lookup, lookup, whatever_lookup};
 pub use ties::{decided_by_ties, ties, whatever_ties};
+
+/// All rows with other choices than the default.
+pub fn with_choices() -> Vec<Row> {
+    [ties(), lookup()].concat()
+}
 
 use crate::notation::{report_words, table, top, usage};
 use crate::reading::calls::WORK_AREA;
