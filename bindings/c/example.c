@@ -1,6 +1,6 @@
 /*
- * All six calls, and three of them with ties to the first, on document 01's bench table. Usages stand
- * in comments as document 01 writes them.
+ * All six calls, three of them with ties to the first and two with the strict lookup, on document 01's
+ * bench table. Usages stand in comments as document 01 writes them.
  */
 #include "usage_merger.h"
 
@@ -37,6 +37,18 @@ static const uint8_t declared[] = {
     QPTR_LIST, 2, 0,
     QPTR_DIRECT_ACCESS, 1, 4, 0, 0, 0, 0, 0, 0, 0,
     QPTR_DIRECT_ACCESS, 1, 4, 0, 0, 0, 1, 0, 0, 0,
+};
+
+/* D16,3: the array as a whole. */
+static const uint8_t array[] = {QPTR_MEMORY, QPTR_DIRECT_ACCESS, 1, 16, 0, 0, 0, 3, 0, 0, 0};
+
+/* D0,0: no bytes, of the array's element type. */
+static const uint8_t empty[] = {QPTR_MEMORY, QPTR_DIRECT_ACCESS, 1, 0, 0, 0, 0, 0, 0, 0, 0};
+
+/* O16[16:D0,0]: the same at offset 16, one past the array's last element. */
+static const uint8_t past_end[] = {
+    QPTR_MEMORY, QPTR_OFFSET_BASE, 1, 16, 0, 0, 0, 1, 0,
+    16, 0, 0, 0, QPTR_DIRECT_ACCESS, 1, 0, 0, 0, 0, 0, 0, 0, 0,
 };
 
 /* U8, D4,0 and D8,2, as a list. The unused 8 bytes become D8,0, which the struct does not support: the
@@ -83,7 +95,7 @@ static void show_verdict(const char *name)
 }
 
 /* Where two tie, the choice decides who receives, and so which type is kept. */
-static void show_choice(uint32_t choices, const char *ties)
+static void show_ties(uint32_t choices, const char *ties)
 {
     printf("with %s:\n", ties);
     printf("receiver of D4,0 and D4,1: %" PRIu32 "\n",
@@ -97,6 +109,19 @@ static void show_choice(uint32_t choices, const char *ties)
     qptr_fold_with(choices, table, sizeof table, work, sizeof work, declared, sizeof declared,
                    output, sizeof output, report, sizeof report, answer);
     show_answer("fold D4,0, D4,1");
+}
+
+/* Whether the array contains a place of no bytes one past its last element. */
+static void show_lookup(uint32_t choices, const char *lookup)
+{
+    printf("with %s:\n", lookup);
+    qptr_supports_with(choices, table, sizeof table, work, sizeof work, 3, 16, empty, sizeof empty,
+                       answer);
+    show_verdict("type 3 supports D0,0 at 16");
+
+    qptr_merge_with(choices, table, sizeof table, work, sizeof work, past_end, sizeof past_end,
+                    array, sizeof array, output, sizeof output, report, sizeof report, answer);
+    show_answer("merge O16[16:D0,0] with D16,3");
 }
 
 int main(void)
@@ -129,7 +154,9 @@ int main(void)
     printf("receiver of O8[0:D4,1] and D8,2: %" PRIu32 "\n",
            qptr_receiver(wrong_field, sizeof wrong_field, whole, sizeof whole));
 
-    show_choice(0, "ties to the second, as in the Rust");
-    show_choice(QPTR_TIES_TO_FIRST, "ties to the first");
+    show_ties(0, "ties to the second, as in the Rust");
+    show_ties(QPTR_TIES_TO_FIRST, "ties to the first");
+    show_lookup(0, "the lenient lookup, as in the Rust");
+    show_lookup(QPTR_STRICT_LOOKUP, "the strict lookup");
     return 0;
 }

@@ -110,7 +110,16 @@ enum qptr_choice {
      * far, so that the first declared receives; in an array, the element that is there. Of two
      * entries of maps at one offset it is the one that is being put in, so inside of maps what was
      * declared first need not stay. */
-    QPTR_TIES_TO_FIRST = 1
+    QPTR_TIES_TO_FIRST = 1,
+
+    /* At the index that is its length, one past its last element, an array type contains nothing. In
+     * the Rust it contains an element of size 0 there, and so may support a usage of size 0, or of
+     * dynamic size, which counts as 0 in this lookup. All else is contained as before: what is in the
+     * last element, up to its end; whatever is in an array without a length (0 in the table); and in
+     * a struct what is at a field's end. A type is looked up where it is asked whether it supports a
+     * usage: by qptr_supports, and in merging where a typed leaf receives. So merging may report more
+     * conflicts of types (32); the usage that it writes and the pairings are the same. */
+    QPTR_STRICT_LOOKUP = 2
 };
 
 /* Which of two Memory streams receives the other: 1 the first, 2 the second, 0 where one of them is
@@ -157,16 +166,18 @@ void qptr_fold(const uint8_t *table, size_t table_length, uint8_t *work, size_t 
  * work area, and what is promised of sound usages. With choices 0 they give the same answers.
  * qptr_sound has no such twin, since nothing that can be chosen touches it. */
 
+/* The tie rule touches it. The lookup does not: no type is asked. */
 uint32_t qptr_receiver_with(uint32_t choices, const uint8_t *first, size_t first_length,
                             const uint8_t *second, size_t second_length);
 
-/* The tie rule does not touch it: support merges nothing. It takes choices for those that will. */
+/* The lookup touches it. The tie rule does not: nothing is merged. */
 void qptr_supports_with(uint32_t choices, const uint8_t *table, size_t table_length,
                         uint8_t *work, size_t work_length, uint32_t type, uint32_t offset,
                         const uint8_t *stream, size_t stream_length,
                         uint64_t answer[QPTR_ANSWER_LENGTH]);
 
-/* The first receives in any case; ties are met where usages inside of the two are merged. */
+/* Both choices touch this call and the next two. Here the first receives in any case; ties are met
+ * where usages inside of the two are merged. */
 void qptr_place_with(uint32_t choices, const uint8_t *table, size_t table_length,
                      uint8_t *work, size_t work_length,
                      const uint8_t *first, size_t first_length, uint32_t offset,

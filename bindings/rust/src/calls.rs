@@ -6,9 +6,11 @@
 //! The library takes all [`Choices`] as one number, which is 0 for what the source does:
 //!
 //! ```
-//! use usage_merger::{Choices, Ties};
+//! use usage_merger::{Choices, Lookup, Ties};
 //! assert_eq!(Choices::default().number(), 0);
 //! assert_eq!(Choices::of(1), Choices::default().with_ties(Ties::First));
+//! assert_eq!(Choices::of(2), Choices::default().with_lookup(Lookup::Strict));
+//! assert_eq!(Choices::of(3), Choices::of(1).with_lookup(Lookup::Strict));
 //! // A bit that no choice has.
 //! assert_eq!(Choices::of(1 << 31), Choices::default());
 //! ```
@@ -111,7 +113,7 @@ pub struct Buffers<'a> {
 // are filled in. The library keeps no pointer and has no state of its own.
 
 /// Which of two Memory streams receives the other: 1 the first, 2 the second, 0 where one of them
-/// is bad or both have too many nodes.
+/// is bad or both have too many nodes. The lookup does not matter to it.
 ///
 /// ```
 /// use usage_merger::{Choices, Ties, calls::receiver};
@@ -132,7 +134,7 @@ pub fn receiver(choices: Choices, first: &[u8], second: &[u8]) -> u32 {
 }
 
 /// Whether a type supports the usage of a Memory stream at an offset. The tie rule does not matter
-/// to it.
+/// to it, but the lookup does.
 #[rustfmt::skip]
 pub fn supports(setting: Setting<'_>, ty: u32, offset: u32, stream: &[u8]) -> Answer {
     let Setting { table, work, choices } = setting;
@@ -148,7 +150,7 @@ pub fn supports(setting: Setting<'_>, ty: u32, offset: u32, stream: &[u8]) -> An
 }
 
 /// Places the usage of the second Memory stream into the first's, at an offset. The tie rule is
-/// asked where that leads to merging.
+/// asked where that leads to merging, and the lookup where a typed leaf receives.
 #[rustfmt::skip]
 pub fn place(
     setting: Setting<'_>, first: &[u8], offset: u32, second: &[u8], buffers: Buffers<'_>,

@@ -34,6 +34,25 @@
 //! # Ok::<(), Box<dyn std::error::Error>>(())
 //! ```
 //!
+//! One past its last element an array type contains an element of size 0; or nothing, for drivers that
+//! refuse pointers there, where the strict lookup is chosen:
+//!
+//! ```
+//! # use usage_merger::{Choices, Conflict, Lookup, QPtrMemUsage, Table, UsageMerger};
+//! let lenient = UsageMerger::new(&Table::bench())?;
+//! let strict = lenient.clone().with_choices(Choices::default().with_lookup(Lookup::Strict));
+//! let (past, array): (QPtrMemUsage, QPtrMemUsage) = ("O16[16:D0,0]".parse()?, "D16,3".parse()?);
+//! let conflicts = |mut merger: UsageMerger| -> Result<Vec<Conflict>, usage_merger::Error> {
+//!     let answer = merger.merge_mem(&past, &array)?;
+//!     assert_eq!(answer.merged, array);
+//!     Ok(answer.conflicts)
+//! };
+//! assert!(conflicts(lenient)?.is_empty());
+//! let words = "entry at 16: no type here supports the other usage; the receiver's type is kept";
+//! assert_eq!(conflicts(strict)?[0].to_string(), words);
+//! # Ok::<(), Box<dyn std::error::Error>>(())
+//! ```
+//!
 //! Types have the source's names; what is different is said where it is. Tables and usages are
 //! values; [`notation`] has a short way to write them. Wherever something can be wrong there is an
 //! [`Error`]: the library's refusals, with their numbers and words, among them. No function panics.
@@ -58,7 +77,7 @@ mod streams;
 mod table;
 mod usage;
 
-pub use choices::{Choices, Ties};
+pub use choices::{Choices, Lookup, Ties};
 pub use conflict::{Conflict, ConflictKind};
 pub use error::{ByteFault, BytesError, Error, ValueError};
 pub use merger::{MergeResult, Receiver, UsageMerger};

@@ -140,6 +140,21 @@ impl UsageMerger {
     /// assert_eq!(merger.fold([&a, &b, &b])?.merged, a);
     /// # Ok::<(), Box<dyn std::error::Error>>(())
     /// ```
+    ///
+    /// With the strict lookup, an access one past an array's last element conflicts with the array. The
+    /// merged usage and the pairings are the same. Choices combine:
+    ///
+    /// ```
+    /// # use usage_merger::{Choices, ConflictKind, Lookup, QPtrMemUsage, Table, Ties, UsageMerger};
+    /// let both = Choices::default().with_ties(Ties::First).with_lookup(Lookup::Strict);
+    /// let mut merger = UsageMerger::new(&Table::bench())?.with_choices(both);
+    /// let (past, array): (QPtrMemUsage, QPtrMemUsage) = ("O16[16:D0,0]".parse()?, "D16,3".parse()?);
+    /// let answer = merger.merge_mem(&past, &array)?;
+    /// assert_eq!((answer.merged, answer.pairings), (array, 2));
+    /// assert_eq!(answer.conflicts[0].offsets, [16]);
+    /// assert_eq!(answer.conflicts[0].kind, ConflictKind::Type);
+    /// # Ok::<(), Box<dyn std::error::Error>>(())
+    /// ```
     #[must_use]
     pub fn with_choices(self, choices: Choices) -> UsageMerger {
         UsageMerger { choices, ..self }
@@ -248,6 +263,22 @@ impl UsageMerger {
     /// let second_field: QPtrMemUsage = "D4,1".parse()?;
     /// assert!(merger.supports_usage_at_offset(Type(2), 4, &second_field)?);
     /// assert!(!merger.supports_usage_at_offset(Type(2), 0, &second_field)?);
+    /// # Ok::<(), Box<dyn std::error::Error>>(())
+    /// ```
+    ///
+    /// With the strict lookup an array type contains nothing one past its last element, and supports
+    /// no access there. It supports the last element, and without a length any:
+    ///
+    /// ```
+    /// # use usage_merger::{Choices, Lookup, QPtrMemUsage, Table, Type, UsageMerger};
+    /// let table: Table = "scalar 4; elements 16 (4, 0, 4); elements 16 (4, 0, 0)".parse()?;
+    /// let mut lenient = UsageMerger::new(&table)?;
+    /// let mut strict = lenient.clone().with_choices(Choices::default().with_lookup(Lookup::Strict));
+    /// let (empty, last): (QPtrMemUsage, QPtrMemUsage) = ("D0,0".parse()?, "D4,0".parse()?);
+    /// assert!(lenient.supports_usage_at_offset(Type(1), 16, &empty)?);
+    /// assert!(!strict.supports_usage_at_offset(Type(1), 16, &empty)?);
+    /// assert!(strict.supports_usage_at_offset(Type(1), 12, &last)?);
+    /// assert!(strict.supports_usage_at_offset(Type(2), 16, &empty)?);
     /// # Ok::<(), Box<dyn std::error::Error>>(())
     /// ```
     ///
@@ -384,7 +415,7 @@ fn memory(written: Written) -> Result<MergeResult<QPtrMemUsage>, Error> {
 #[cfg(test)]
 mod tests {
     use super::*;
-    use crate::choices::Ties;
+    use crate::choices::{Lookup, Ties};
     use crate::conflict::ConflictKind;
     use crate::error::ValueError;
     use crate::usage::QPtrMemUsageKind;
@@ -458,6 +489,29 @@ mod tests {
         assert_eq!(top.merged, a.into());
         let array = usage("A8,4,D4,0");
         assert_eq!(merger.merge_mem_at(&array, 4, &b).unwrap().merged, array);
+    }
+
+    #[test]
+    fn the_lookup_reaches_the_calls() {
+        let strict = Choices::default().with_lookup(Lookup::Strict);
+        let both = strict.with_ties(Ties::First);
+        let (past, array, empty) = (usage("O16[16:D0,0]"), usage("D16,3"), usage("D0,0"));
+        for (choices, found) in [(Choices::default(), 0), (strict, 1), (both, 1)] {
+            let mut merger = merger().with_choices(choices);
+            assert_eq!((merger.choices(), merger.clone().choices()), (choices, choices));
+            let supported = merger.supports_usage_at_offset(Type(3), 16, &empty);
+            assert_eq!(supported, Ok(found == 0));
+            let answers = [
+                merger.merge_mem(&past, &array).unwrap(),
+                merger.merge_mem_at(&array, 16, &empty).unwrap(),
+                merger.fold([&past, &array]).unwrap(),
+            ];
+            for MergeResult { merged, conflicts, .. } in answers {
+                assert_eq!((&merged, conflicts.len()), (&array, found));
+            }
+            let top = merger.merge(&past.clone().into(), &array.clone().into()).unwrap();
+            assert_eq!((top.merged, top.conflicts.len()), (array.clone().into(), found));
+        }
     }
 
     #[test]

@@ -1,8 +1,8 @@
-//! Document 01's bench pairs, as values; and with ties to the first.
+//! Document 01's bench pairs, as values; with ties to the first, too, and with the strict lookup.
 
 use usage_merger::{
-    Choices, Conflict, ConflictKind, Error, MergeResult, QPtrMemUsage, Refusal, Table, Ties,
-    UsageMerger,
+    Choices, Conflict, ConflictKind, Error, Lookup, MergeResult, QPtrMemUsage, Refusal, Table,
+    Ties, UsageMerger,
 };
 
 /// First, second, the merged usage, the pairings.
@@ -36,15 +36,18 @@ fn usage(text: &str) -> QPtrMemUsage {
     text.parse().unwrap()
 }
 
-fn answer(ties: Ties, first: &str, second: &str) -> MergeResult<String> {
-    let merger = UsageMerger::new(&Table::bench()).unwrap();
-    let mut merger = merger.with_choices(Choices::default().with_ties(ties));
+fn over(table: &Table, choices: Choices, first: &str, second: &str) -> MergeResult<String> {
+    let mut merger = UsageMerger::new(table).unwrap().with_choices(choices);
     let answer = merger.merge_mem(&usage(first), &usage(second)).unwrap();
     answer.map(|usage| usage.to_string())
 }
 
+fn answer(choices: Choices, first: &str, second: &str) -> MergeResult<String> {
+    over(&Table::bench(), choices, first, second)
+}
+
 fn merged(first: &str, second: &str) -> (String, Vec<Conflict>, u64) {
-    let answer = answer(Ties::Second, first, second);
+    let answer = answer(Choices::default(), first, second);
     (answer.merged, answer.conflicts, answer.pairings)
 }
 
@@ -64,21 +67,53 @@ fn the_answers_are_as_written() {
 
 #[test]
 fn ties_to_the_first_are_as_worked_out() {
+    let to_first = Choices::default().with_ties(Ties::First);
     let worked = |first, second| TO_FIRST.iter().find(|row| (row.0, row.1) == (first, second));
     let same = ANSWERED.iter().filter(|row| worked(row.0, row.1).is_none());
     assert_eq!(same.clone().count(), 8);
     for (first, second, expected, pairings) in TO_FIRST.iter().chain(same) {
-        let answer = answer(Ties::First, first, second);
+        let answer = answer(to_first, first, second);
         assert_eq!(
             (&answer.merged[..], answer.pairings),
             (*expected, *pairings),
             "{first} {second}"
         );
     }
-    assert_eq!(answer(Ties::First, "D4,0", "D4,1").conflicts, conflict(&[], ConflictKind::Type));
+    assert_eq!(answer(to_first, "D4,0", "D4,1").conflicts, conflict(&[], ConflictKind::Type));
     let straddle = ConflictKind::Straddle { entry: 4, usage: 2 };
-    let straddled = answer(Ties::First, "O12[0:D4,0 4:D4,0]", "O12[2:D4,0]");
+    let straddled = answer(to_first, "O12[0:D4,0 4:D4,0]", "O12[2:D4,0]");
     assert_eq!(straddled.conflicts, conflict(&[2], straddle));
+}
+
+/// The strict lookup decides one row, whoever receives on ties.
+#[test]
+fn the_strict_lookup_is_as_written() {
+    let past = ("O16[16:D0,0]", "D16,3");
+    let to_first = ANSWERED.iter().chain(&TO_FIRST).map(|row| (row.0, row.1, Ties::First));
+    let rows = ANSWERED.iter().map(|row| (row.0, row.1, Ties::Second)).chain(to_first);
+    for (first, second, ties) in rows {
+        let lenient = Choices::default().with_ties(ties);
+        let strict = answer(lenient.with_lookup(Lookup::Strict), first, second);
+        let mut expected = answer(lenient, first, second);
+        if (first, second) == past {
+            expected.conflicts = conflict(&[16], ConflictKind::Type);
+        }
+        assert_eq!(strict, expected, "{first} and {second}");
+    }
+}
+
+/// A dynamic size counts as 0 in the lookup, so sound usages are touched, too.
+#[test]
+fn the_strict_lookup_decides_about_sound_usages() {
+    let table = "scalar 1+1; elements 1+1 (1, 0, 1)".parse().unwrap();
+    let strict = Choices::default().with_lookup(Lookup::Strict);
+    for (choices, expected) in
+        [(Choices::default(), Vec::new()), (strict, conflict(&[1], ConflictKind::Type))]
+    {
+        let MergeResult { merged, conflicts, pairings } =
+            over(&table, choices, "O*[1:D*,0]", "D*,1");
+        assert_eq!((&merged[..], conflicts, pairings), ("D*,1", expected, 2));
+    }
 }
 
 #[test]

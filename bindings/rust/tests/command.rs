@@ -160,6 +160,65 @@ fn ties_are_met_in_folds_and_placings() {
 }
 
 #[test]
+fn the_lookup_is_chosen_and_what_it_decides_is_told() {
+    let expected = "\
+first   Memory O16[16:D0,0]  not sound, 2 nodes
+second  Memory D16,3         sound, 1 node, receives
+merged  Memory D16,3         sound, 1 node, strict lookup
+
+  DirectAccess, 16 bytes, type 3 (elements 16 (4, 0, 4))
+
+1 conflict
+  entry at 16: no type here supports the other usage; the receiver's type is kept
+the strict lookup decides this: the lenient one gives the same usage and no conflicts
+2 pairings, of at most 3; 1 node, of at most 3
+  promised of M = 3 nodes in: at most M nodes out, and M(M-1)/2 pairings
+  not sound: first; so it might have been refused with 8 or 9
+";
+    let row = ["O16[16:D0,0]", "D16,3"];
+    assert_eq!(shown(&[&["--lookup", "strict"], &row[..]].concat()), expected);
+    assert_eq!(shown(&[&["--lookup=lenient", "--lookup=strict"], &row[..]].concat()), expected);
+    let lenient = shown(&row);
+    assert!(lenient.contains("\nno conflicts\n") && !lenient.contains("lookup"), "{lenient}");
+    assert_eq!(lenient, shown(&[&["--lookup", "lenient"], &row[..]].concat()));
+
+    // Where the two lookups agree, nothing is said of the other.
+    for usages in [["O16[12:D4,0]", "D16,3"], ["O16[0:D4,1]", "D16,3"], ["Opaque 4", "D16,3"]] {
+        let same = shown(&[&["--lookup", "strict"], &usages[..]].concat());
+        assert!(same.contains(", strict lookup\n") && !same.contains("decides"), "{same}");
+        assert_eq!(same.replace(", strict lookup", ""), shown(&usages));
+    }
+}
+
+#[test]
+fn the_lookup_is_asked_in_folds_and_placings_and_of_sound_usages() {
+    let strict = |words: &[&str]| shown(&[&["--lookup", "strict"], words].concat());
+    let placed = strict(&["--at", "16", "D16,3", "D0,0"]);
+    assert!(placed.contains("gives the same usage and no conflicts\n"), "{placed}");
+    let buffers = strict(&["Buffer O16[16:D0,0]", "Buffer D16,3"]);
+    assert!(buffers.contains("gives the same usage and no conflicts\n"), "{buffers}");
+    let folded = strict(&["D16,3", "O16[0:D4,1]", "O16[16:D0,0]"]);
+    assert!(folded.contains("\n2 conflicts\n"), "{folded}");
+    assert!(folded.contains("gives the same usage and 1 conflict\n"), "{folded}");
+    let table = "scalar 1+1; elements 1+1 (1, 0, 1)";
+    let sound = strict(&["--table", table, "O*[1:D*,0]", "D*,1"]);
+    assert!(sound.contains("  entry at 1: no type here supports"), "{sound}");
+    assert!(sound.contains("decides this") && sound.contains("all usages are sound"), "{sound}");
+}
+
+#[test]
+fn choices_combine() {
+    let table = "scalar 4; elements 16 (4, 0, 4); elements 16 (4, 0, 4)";
+    let usages = ["--table", table, "D16,1", "D16,2", "O16[16:D0,0]"];
+    let both = shown(&[&["--ties", "first", "--lookup", "strict"], &usages[..]].concat());
+    let words =
+        "\nfolded  Memory D16,1         sound, 1 node, ties go to the first, strict lookup\n";
+    assert!(both.contains(words) && both.contains("\n2 conflicts\n"), "{both}");
+    assert!(both.contains("gives the same usage and 1 conflict\n"), "{both}");
+    assert_eq!(both, shown(&[&["--lookup=strict", "--ties=first"], &usages[..]].concat()));
+}
+
+#[test]
 fn a_table_is_taken() {
     let table = "scalar 4; elements 0+4 (4, 0, 0)";
     let merged = shown(&["--table", table, "D*,1", "O8[4:D4,0]"]);
@@ -214,6 +273,10 @@ fn misuse_is_said() {
     assert_eq!(failed(2, &["--ties", "third", "U0"]), expected);
     assert_eq!(failed(2, &["--ties=third", "U0"]), expected);
     assert!(failed(2, &["--ties=", "U0"]).contains("expected `first` or `second`"));
+    assert!(failed(2, &["--lookup"]).contains("--lookup needs something after it"));
+    let expected = "usage-merge: --lookup: expected `lenient` or `strict`\n  loose\n  ^\n";
+    assert_eq!(failed(2, &["--lookup", "loose", "U0"]), expected);
+    assert_eq!(failed(2, &["--lookup=loose", "U0"]), expected);
     assert!(shown(&["--help"]).starts_with("usage-merge merges usages"));
     let no_folder = failed(1, &["--svg", "/no folder here/a.svg", "U0", "U0"]);
     assert!(no_folder.contains("/no folder here/a.svg: "), "{no_folder}");
@@ -249,12 +312,25 @@ fn a_frame_has_three_blocks() {
     assert!(failed(2, &["--frame", "U0"]).contains("--frame takes two usages"));
     assert!(failed(2, &["--frame", "--at", "0", "U0", "U0"]).contains("without --at"));
     assert!(failed(2, &["--frame", "--svg", "no.svg", "U0", "U0"]).contains("without --svg"));
-    let ties = failed(2, &["--frame", "--ties", "first", "U0", "U0"]);
-    assert!(ties.contains("--frame goes without --ties first"), "{ties}");
-    assert_eq!(run(&["--frame", "--ties=second", "O8[0:D4,1]", "D8,2"]).stdout, frame);
     let entries: Vec<String> = (0..10_000).map(|offset| format!("{offset}:U1")).collect();
     let long = failed(1, &["--frame", "U0", &format!("O*[{}]", entries.join(" "))]);
     assert!(long.contains("the program reads at most 65536"), "{long}");
+}
+
+#[test]
+fn a_frame_goes_without_choices() {
+    let [plain, source] = [&["--frame"][..], &["--frame", "--ties=second", "--lookup=lenient"]]
+        .map(|options| run(&[options, &["O8[0:D4,1]", "D8,2"]].concat()).stdout);
+    assert!(!plain.is_empty() && plain == source);
+    for (options, named) in [
+        (&["--ties", "first"][..], "--ties first"),
+        (&["--lookup", "strict"], "--lookup strict"),
+        (&["--lookup=strict", "--ties=first"], "--ties first and --lookup strict"),
+    ] {
+        let expected =
+            format!("usage-merge: --frame goes without {named}: the program has no choices\n");
+        assert_eq!(failed(2, &[&["--frame"], options, &["U0", "U0"]].concat()), expected);
+    }
 }
 
 /// A picture's file, in the folder for this run.
@@ -306,6 +382,10 @@ fn a_picture_shows_rows_and_overlaps() {
     let (_, svg) = picture("ties.svg", &["--ties", "first", "D4,0", "D4,1"]);
     well_formed(&svg);
     assert!(svg.contains("result: Memory D4,0 (sound, ties go to the first)"));
+    let (_, svg) = picture("lookup.svg", &["--lookup", "strict", "O16[16:D0,0]", "D16,3"]);
+    well_formed(&svg);
+    assert!(svg.contains("result: Memory D16,3 (sound, strict lookup)"));
+    assert!(svg.contains("conflict: entry at 16: no type here"));
     let (_, svg) = picture("apart.svg", &["O8[0:D4,0]", "O8[4:D4,1]"]);
     assert!(svg.contains("no byte is accessed by more than one usage"));
     assert!(!svg.contains("An array's element"));
@@ -356,6 +436,8 @@ fn any_words_are_answered() {
                 "--table=",
                 "--ties=first",
                 "--ties",
+                "--lookup=strict",
+                "--lookup",
                 "--",
                 "-",
             ];

@@ -10,9 +10,9 @@ use std::env;
 use std::time::{Duration, Instant};
 use usage_merger::calls::{self, Answer, Buffers, Setting, WORK_AREA};
 use usage_merger::{
-    ByteFault, Choices, Conflict, Error, MergeResult, NotationError, QPtrMemUsage,
-    QPtrMemUsageKind, QPtrUsage, Receiver, Refusal, Table, Ties, Type, TypeLayout, UsageMerger,
-    ValueError, list_from_bytes, list_to_bytes,
+    ByteFault, Choices, Conflict, ConflictKind, Error, Lookup, MergeResult, NotationError,
+    QPtrMemUsage, QPtrMemUsageKind, QPtrUsage, Receiver, Refusal, Table, Ties, Type, TypeLayout,
+    UsageMerger, ValueError, list_from_bytes, list_to_bytes,
 };
 
 /// Runs a part again and again until its share of the time is over.
@@ -295,6 +295,77 @@ fn the_tie_rules_are_each_other_exchanged() {
         });
         assert_eq!(to_first.receiver(&a, &b), exchanged);
     });
+}
+
+/// Arrays with these lengths, in a struct and in each other, and one of a dynamic size. The two mergers
+/// differ in the lookup.
+fn lookups([a, b, c]: [u32; 3]) -> [UsageMerger; 2] {
+    let table = format!(
+        "scalar 4; elements 16 (4, 0, {a}); fields 24 {{0:1 16:0}}; elements 32 (16, 1, {b}); \
+         scalar 1+1; elements 8+4 (4, 4, {c})"
+    );
+    let merger = UsageMerger::new(&table.parse().unwrap()).unwrap();
+    [Lookup::Lenient, Lookup::Strict]
+        .map(|lookup| merger.clone().with_choices(Choices::default().with_lookup(lookup)))
+}
+
+/// Types of these tables, their sizes, and where an array ends in them.
+const ENDS: [(u32, Option<u32>, u32); 4] =
+    [(1, Some(16), 16), (2, Some(24), 16), (3, Some(32), 32), (5, None, 8)];
+
+/// A type, a leaf of it, an offset, and a usage: often one that comes to stand where an array ends, and
+/// is empty or dynamic.
+fn near_an_end(rng: &mut Rng) -> (Type, QPtrMemUsage, u32, QPtrMemUsage) {
+    let (ty, max_size, end) = rng.pick(&ENDS);
+    let leaf = |max_size, ty| QPtrMemUsage { max_size, kind: QPtrMemUsageKind::DirectAccess(ty) };
+    let whole = leaf(max_size, Type(ty));
+    let small = leaf(rng.pick(&[Some(0), None, Some(4)]), Type(rng.pick(&[0, 1, 4])));
+    let kind = QPtrMemUsageKind::OffsetBase([(end, small.clone())].into());
+    let (at, usage) = match rng.below(5) {
+        0 => (rng.number(), any_usage(rng)),
+        1 | 2 => (end, small),
+        _ => (0, QPtrMemUsage { max_size, kind }),
+    };
+    (Type(ty), if rng.one_in(5) { any_usage(rng) } else { whole }, at, usage)
+}
+
+/// Whether the lookup decides about support, and about a placing. The strict one supports no more
+/// than the other; so there may be more conflicts of types, and all else is the same.
+fn decides(rng: &mut Rng, [lenient, strict]: &mut [UsageMerger; 2]) -> [bool; 2] {
+    let (ty, a, at, b) = near_an_end(rng);
+    let asked = |merger: &mut UsageMerger| merger.supports_usage_at_offset(ty, at, &b);
+    let supports = (asked(strict), asked(lenient));
+    let fewer = supports == (Ok(false), Ok(true));
+    assert!(supports.0 == supports.1 || fewer, "{ty:?} at {at}: {b}");
+    let placed = |merger: &mut UsageMerger| merger.merge_mem_at(&a, at, &b);
+    let (strict, lenient) = match (placed(strict), placed(lenient)) {
+        (Ok(strict), Ok(lenient)) => (strict, lenient),
+        (strict, lenient) => {
+            assert_eq!(strict, lenient);
+            return [fewer, false];
+        }
+    };
+    assert_eq!((&strict.merged, strict.pairings), (&lenient.merged, lenient.pairings));
+    let of_types = |answer: &MergeResult<QPtrMemUsage>| {
+        let is_type = |conflict: &&Conflict| conflict.kind == ConflictKind::Type;
+        answer.conflicts.iter().filter(is_type).count()
+    };
+    let (more, less) = (of_types(&strict), of_types(&lenient));
+    assert!(more >= less && more - less == strict.conflicts.len() - lenient.conflicts.len());
+    [fewer, more != less]
+}
+
+#[test]
+fn the_strict_lookup_only_takes_support_away() {
+    let (mut with, mut without) = (lookups([4, 2, 2]), lookups([0, 0, 0]));
+    let mut decided = [0, 0];
+    fuzz(0.1, 8, |rng| {
+        let decides_here = decides(rng, &mut with);
+        decided = [0, 1].map(|which| decided[which] + u32::from(decides_here[which]));
+        assert_eq!(decides(rng, &mut without), [false; 2], "no array has a length");
+    });
+    println!("decided: {decided:?} of questions and placings");
+    assert!(decided.iter().all(|times| *times > 0));
 }
 
 /// The promise: sound usages are never refused with 8 or 9, what comes of them is sound, and as

@@ -5,7 +5,7 @@
 mod records;
 
 use records::{Record, records};
-use usage_merger::{Choices, Ties};
+use usage_merger::{Choices, Lookup, Ties};
 
 /// A slice that is read, and one that is written.
 type Bytes = *const u8;
@@ -130,13 +130,35 @@ fn without_choices_is_with_choices_0() {
     }
 }
 
+/// Which calls these two numbers of choices answer differently.
+fn touched(twins: &[Record], one: u32, other: u32) -> Vec<u8> {
+    let differs = |record: &Record| left(record, Some(one)) != left(record, Some(other));
+    let touches = |call: &u8| twins.iter().any(|it| it.call == *call && differs(it));
+    (0..5).filter(touches).collect()
+}
+
 #[test]
-fn the_tie_rule_touches_all_but_supports() {
-    let (twins, to_first) = (twins(), Choices::default().with_ties(Ties::First).number());
-    for call in 0..5 {
-        let mut records = twins.iter().filter(|record| record.call == call);
-        let touched = records.any(|record| left(record, Some(to_first)) != left(record, Some(0)));
-        assert_eq!(touched, call != 1, "call {call}");
+fn each_choice_touches_its_calls_with_the_other_or_without() {
+    let twins = twins();
+    for (without, with) in [(0, 1), (2, 3)] {
+        assert_eq!(touched(&twins, without, with), [0, 2, 3, 4], "the tie rule, all but supports");
+    }
+    for (without, with) in [(0, 2), (1, 3)] {
+        assert_eq!(touched(&twins, without, with), [1, 2, 3, 4], "the lookup, all but receiver");
+    }
+}
+
+#[test]
+fn numbers_are_sums_of_choices() {
+    let none = Choices::default();
+    let (to_first, strict) = (none.with_ties(Ties::First), none.with_lookup(Lookup::Strict));
+    let all = [none, to_first, strict, strict.with_ties(Ties::First)];
+    for (number, choices) in (0..).zip(all) {
+        assert_eq!((choices.number(), Choices::of(number)), (number, choices));
+        for bit in 2..32 {
+            assert_eq!(Choices::of(number | 1 << bit), choices, "bit {bit}");
+        }
+        assert_eq!(Choices::of(number | !3), choices);
     }
 }
 

@@ -13,9 +13,11 @@ use usage_merger::{
 #[test]
 fn calls_on_bytes_give_the_recorded_answers() {
     let records = records();
-    let chosen = records.iter().filter(|record| record.choices != Choices::default()).count();
-    println!("{} calls, {chosen} with choices", records.len());
-    assert!(records.len() - chosen > 2_000 && chosen > 100);
+    let with =
+        |number| records.iter().filter(|record| record.choices == Choices::of(number)).count();
+    let counts = [0, 1, 2, 3].map(with);
+    println!("{} calls, by their choices {counts:?}", records.len());
+    assert!(counts[0] > 2_000 && counts[1..].iter().all(|count| *count > 40));
     for (index, record) in records.iter().enumerate() {
         on_bytes(record, index);
     }

@@ -5,7 +5,7 @@ use crate::ask::{Question, name};
 use std::ffi::OsString;
 use std::path::PathBuf;
 use std::str::FromStr;
-use usage_merger::{Choices, NotationError, QPtrUsage, Table, Ties};
+use usage_merger::{Choices, Lookup, NotationError, QPtrUsage, Table, Ties};
 
 pub const HELP: &str = "\
 usage-merge merges usages and shows the merged usage, the conflicts and what it took.
@@ -18,8 +18,10 @@ usage-merge merges usages and shows the merged usage, the conflicts and what it 
     --ties WHO      who receives on a tie of size and strictness, at every level: `first` or `second`;
                     the second if nobody is named. First is the usage so far in a fold, the element
                     of an array, and of two entries at one offset the one that is being put in
+    --lookup HOW    what an array type contains at the index that is its length, one past its last
+                    element: `lenient` an element of size 0, `strict` nothing; lenient if not said
     --frame         writes the frame for the program `merge` to standard output, and nothing else; the
-                    program's ties go to the second
+                    program's ties go to the second, and its lookup is lenient
     --svg FILE      also draws the usages and the result to a file
     --help          this text
 
@@ -46,6 +48,7 @@ pub struct Arguments {
 struct Given {
     table: Option<String>,
     ties: Option<String>,
+    lookup: Option<String>,
     at: Option<String>,
     frame: bool,
     svg: Option<PathBuf>,
@@ -60,8 +63,7 @@ impl Arguments {
             Some(text) => parsed("the table", text)?,
             None => Table::bench(),
         };
-        let ties = given.ties.as_deref().map(ties).transpose()?;
-        let choices = Choices::default().with_ties(ties.unwrap_or_default());
+        let choices = given.choices()?;
         let at = given.at.as_deref().map(offset).transpose()?;
         let count = given.usages.len();
         let usage =
@@ -118,6 +120,7 @@ impl Given {
                 "--frame" => given.frame = true,
                 "--table" => given.table = Some(text(value()?)?),
                 "--ties" => given.ties = Some(text(value()?)?),
+                "--lookup" => given.lookup = Some(text(value()?)?),
                 "--at" => given.at = Some(text(value()?)?),
                 "--svg" => given.svg = Some(PathBuf::from(value()?)),
                 _ => {
@@ -128,6 +131,13 @@ impl Given {
             }
         }
         Ok(Some(given))
+    }
+
+    /// What is chosen. Where nothing is, it is as in the source.
+    fn choices(&self) -> Result<Choices, Failure> {
+        let ties = self.ties.as_deref().map(ties).transpose()?.unwrap_or_default();
+        let lookup = self.lookup.as_deref().map(lookup).transpose()?.unwrap_or_default();
+        Ok(Choices::default().with_ties(ties).with_lookup(lookup))
     }
 }
 
@@ -148,6 +158,14 @@ fn ties(text: &str) -> Result<Ties, Failure> {
         "first" => Ok(Ties::First),
         "second" => Ok(Ties::Second),
         other => Err(unexpected("--ties: expected `first` or `second`", other)),
+    }
+}
+
+fn lookup(text: &str) -> Result<Lookup, Failure> {
+    match text.trim() {
+        "lenient" => Ok(Lookup::Lenient),
+        "strict" => Ok(Lookup::Strict),
+        other => Err(unexpected("--lookup: expected `lenient` or `strict`", other)),
     }
 }
 

@@ -1,7 +1,8 @@
 //! What is asked, and the library's answer to it.
 
 use usage_merger::{
-    Choices, Error, MergeResult, QPtrMemUsage, QPtrUsage, Receiver, Table, Ties, UsageMerger,
+    Choices, Conflict, Error, Lookup, MergeResult, QPtrMemUsage, QPtrUsage, Receiver, Table, Ties,
+    UsageMerger,
 };
 
 /// What the command line asks for.
@@ -23,6 +24,8 @@ pub struct Answer {
     /// Of two usages that are merged: which receives. Nothing is merged where they are handles, or
     /// a handle and a memory.
     pub received: Option<Received>,
+    /// How many conflicts there are by the lenient lookup, where the strict one finds others.
+    pub lenient: Option<usize>,
 }
 
 /// Which of two usages receives, and whether the tie rule decided it.
@@ -52,7 +55,19 @@ impl Question {
             ([first, second], None) => received(&merger, first, second)?,
             _ => None,
         };
-        Ok(Answer { result, sound, result_sound, received })
+        let lenient = self.lenient(&merger, &result.conflicts)?;
+        Ok(Answer { result, sound, result_sound, received, lenient })
+    }
+
+    /// Asks by the lenient lookup, too, if the strict one is chosen. Only conflicts can differ: which
+    /// type is kept is open between two leaves at one offset alone, and there no array is at its end.
+    fn lenient(&self, strict: &UsageMerger, found: &[Conflict]) -> Result<Option<usize>, Error> {
+        if self.choices.lookup == Lookup::Lenient {
+            return Ok(None);
+        }
+        let choices = self.choices.with_lookup(Lookup::Lenient);
+        let conflicts = self.merged(&mut strict.clone().with_choices(choices))?.conflicts;
+        Ok((conflicts != found).then_some(conflicts.len()))
     }
 
     fn merged(&self, merger: &mut UsageMerger) -> Result<MergeResult<QPtrUsage>, Error> {

@@ -13,7 +13,7 @@ use ask::Question;
 use std::io::{self, Write};
 use std::process::ExitCode;
 use std::{env, fs};
-use usage_merger::{Choices, Error};
+use usage_merger::{Choices, Error, Lookup, Ties};
 
 /// Why there is nothing to show: what to say, and the exit status.
 struct Failure {
@@ -90,9 +90,10 @@ fn frame(question: &Question) -> Result<Vec<u8>, Failure> {
         return Err(Failure::misused("--frame goes without --at: the program merges"));
     }
     if question.choices != Choices::default() {
-        return Err(Failure::misused(
-            "--frame goes without --ties first: the program has no choices",
-        ));
+        let chosen = options(question.choices).join(" and ");
+        return Err(Failure::misused(format!(
+            "--frame goes without {chosen}: the program has no choices"
+        )));
     }
     let mut bytes = Vec::new();
     let failed = |error| Failure::refused(Error::Value(error).to_string());
@@ -109,4 +110,11 @@ fn frame(question: &Question) -> Result<Vec<u8>, Failure> {
         )));
     }
     Ok(bytes)
+}
+
+/// The options for what is not as in the source.
+fn options(choices: Choices) -> Vec<&'static str> {
+    let ties = (choices.ties == Ties::First).then_some("--ties first");
+    let lookup = (choices.lookup == Lookup::Strict).then_some("--lookup strict");
+    ties.into_iter().chain(lookup).collect()
 }

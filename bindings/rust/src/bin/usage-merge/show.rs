@@ -4,8 +4,8 @@ use crate::ask::{Answer, Question, Received, name};
 use std::fmt::Write;
 use usage_merger::shapes::Handle;
 use usage_merger::{
-    Choices, Conflict, Error, QPtrMemUsage, QPtrMemUsageKind, QPtrUsage, Receiver, Refusal, Table,
-    Ties, Type, UsageMerger,
+    Choices, Conflict, Error, Lookup, QPtrMemUsage, QPtrMemUsageKind, QPtrUsage, Receiver, Refusal,
+    Table, Ties, Type, UsageMerger,
 };
 
 /// A number of things.
@@ -83,12 +83,17 @@ fn tie_rule(ties: Ties) -> &'static str {
     }
 }
 
-/// What was chosen, behind a comma, where it is not what the source does.
+/// What was chosen, each behind a comma, where it is not what the source does.
 pub fn chosen(choices: Choices) -> String {
-    match choices.ties {
+    let ties = match choices.ties {
         Ties::Second => String::new(),
         Ties::First => format!(", {}", tie_rule(Ties::First)),
-    }
+    };
+    let lookup = match choices.lookup {
+        Lookup::Lenient => "",
+        Lookup::Strict => ", strict lookup",
+    };
+    ties + lookup
 }
 
 /// Whether a usage is sound, in a word or two.
@@ -164,13 +169,21 @@ fn type_words(ty: Type, table: &Table) -> String {
 
 fn conflicts(text: &mut String, answer: &Answer) {
     let conflicts = &answer.result.conflicts;
-    if conflicts.is_empty() {
-        text.push_str("no conflicts\n");
-        return;
-    }
-    let _ = writeln!(text, "{}", count(conflicts.len() as u64, "conflict"));
+    let _ = writeln!(text, "{}", conflict_count(conflicts.len()));
     for conflict in conflicts {
         let _ = writeln!(text, "  {}", conflict_words(conflict));
+    }
+    if let Some(lenient) = answer.lenient {
+        let others = conflict_count(lenient);
+        let gives = format!("the lenient one gives the same usage and {others}");
+        let _ = writeln!(text, "the strict lookup decides this: {gives}");
+    }
+}
+
+fn conflict_count(number: usize) -> String {
+    match number {
+        0 => "no conflicts".into(),
+        number => count(number as u64, "conflict"),
     }
 }
 
