@@ -14,20 +14,26 @@ use Rattle.definitions.specs.Usage.{Usage, unused, leaf, map, array, Entries, no
 use Rattle.definitions.specs.Table.{Table, Field, Components, scalar, elements, fields, TypeLayout, concrete, handle, failed, Setting, layout_of, fixed_size}
 use Rattle.definitions.specs.Containment.{Inside, at_length, element_size, in_element, in_fields, containing}
 use Rattle.definitions.specs.Support.{Asking, any_of, supports_in, supports, support_rules, entry_supported, entries_supported, itself, same_length, is_unused, is_leaf_of, outside}
-use Rattle.definitions.specs.Requests.Choices.{Choices}
+use Rattle.definitions.specs.Requests.Choices.{Choices, rust}
+use Rattle.definitions.proofs.Choice.{by_test}
 
--- the range starts at an index that is an array's length, one past its last element
+-- the range starts at the index that is the array's length, one past its last element
 abbrev pub StartsAtLength : Components → ℕ → Type 0
 StartsAtLength scalar s = ⊥
 StartsAtLength (elements stride ty len) s = (0 < len) × (s / stride ≡ len)
 StartsAtLength (fields fs) s = ⊥
+
+-- the Rust's choices are document 01's lookup
+pub rust_at_length : at_length rust ≡ some 0
+unfolding when◌then◌else◌
+rust_at_length = refl
 
 element_at_length : (ch : Choices) (n len i : ℕ) → 0 < len → i ≡ len → element_size ch n len i ≡ at_length ch
 unfolding when◌then◌else◌
 element_at_length ch n zero i h e = absurd (omega (arith, h))
 element_at_length ch n (suc len) i h e = rw (le-ltb i (suc len) (omega (arith, e)), eq-eqb i (suc len) e)
 
--- there it contains nothing
+-- there the strict lookup finds nothing
 pub strict_at_length : (st : Setting) (cs : Components) (s e : ℕ) → st.choices.strict_lookup ≡ true → StartsAtLength cs s → containing st cs s e ≡ []
 unfolding when◌then◌else◌
 strict_at_length st scalar s e strict at = absurd at
@@ -53,7 +59,7 @@ lookup_elsewhere t ch ch' scalar s e h = refl
 lookup_elsewhere t ch ch' (elements stride ty len) s e h = rw (size_elsewhere ch ch' (fixed_size (layout_of t ty)) len (s / stride) h) refl
 lookup_elsewhere t ch ch' (fields fs) s e h = fields_alike t ch ch' fs s e
 
--- What a type supports by choices under which no less is strict, it supports by these.
+-- What a type supports under choices, it supports under choices that are no stricter.
 
 -- c says yes only where d does
 abbrev Less : Bool → Bool → Type 0
@@ -76,11 +82,6 @@ unfolding when◌then◌else◌
 guard_less true b c d h k e = rw (h refl) refl
 guard_less false true c d h k e = refl
 guard_less false false c d h k e = k e
-
-when_less : (t a c d : Bool) → Less c d → Less (when t then a else c) (when t then a else d)
-unfolding when◌then◌else◌
-when_less true a c d h = λ x. x
-when_less false a c d h = h
 
 module _ (t : Table) (ch ch' : Choices) (looser : ch'.strict_lookup ≡ true → ch.strict_lookup ≡ true) where
   abbrev tight : Setting
@@ -145,7 +146,7 @@ module _ (t : Table) (ch ch' : Choices) (looser : ch'.strict_lookup ≡ true →
     rules_less ty handle s u = λ x. x
     rules_less ty failed s u = λ x. x
     rules_less ty (concrete n d cs) s u =
-        when_less (is_unused u) _ _ _ (when_less (eqb s 0 && is_leaf_of ty u) _ _ _ (when_less (eqb d 0 && outside n s (size u)) _ _ _
+        by_test Less (is_unused u) (λ x. x) (by_test Less (eqb s 0 && is_leaf_of ty u) (λ x. x) (by_test Less (eqb d 0 && outside n s (size u)) (λ x. x)
         (guard_less _ _ _ _ (containing_less cs s _ u) (itself_less ty cs s u))))
 
   fuel_less : (k ty s : ℕ) (u : Usage) → Less (supports_in tight k ty s u) (supports_in loose k ty s u)

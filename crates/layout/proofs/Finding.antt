@@ -9,7 +9,8 @@ use Rattle.std.specs.Prelude.{Option, Some, None}
 use lib.ListN.{length, take}
 use Rattle.definitions.specs.Table.{Table as Layouts, Setting, concrete, layout_of, admitted}
 use Rattle.layout.specs.Values.{parts_of, layout_in, Formed, FormedParts}
-use Rattle.layout.specs.Located.{AllLocated, Known, InTable, LayoutIs}
+use Rattle.qptr.specs.Choices.{choices_in}
+use Rattle.layout.specs.Located.{AllLocated, InTable, LayoutIs}
 use Rattle.layout.specs.Containing.{containing_from, Next, From, InElements, FieldType, FieldsInTable, InFields, Finds}
 use Rattle.layout.specs.declared.table.Components.{Components}
 use Rattle.layout.specs.declared.table.Components.TheVariants.{Elements, Fields}
@@ -42,13 +43,13 @@ module _ {t : Table} {ty : ℕ} {r : TypeLayout} {size d : ℕ} {cs v : Componen
 module _ {code : CodeSetting} {ty : ℕ} {r : TypeLayout} {size d : ℕ} {cs v : Components} (l : LayoutIs code.table ty r)
     (y : r ≡ Concrete size d cs) (y' : cs ≡ v) where
   finds : {from s e : ℕ} (a : Option Component) → From (λ c. c < ty) a →
-      ((st : Setting) → Known code st → ty < length st.table → Next (containing_from st (parts_of code.table.bytes.now v) s e) from a) → Finds code ty from s e a
+      ((st : Setting) → AllLocated code.table st.table → choices_in code.choices ≡ st.choices → ty < length st.table → Next (containing_from st (parts_of code.table.bytes.now v) s e) from a) → Finds code ty from s e a
   finds {from} {s} {e} a below f = record {
     earlier = below;
-    is = λ st k h n d' cs' x.
-        let z : concrete size d (parts_of code.table.bytes.now v) ≡ concrete n d' cs' = layout_known l y y' st.table k.placed h ∙ x in
+    is = λ st p chosen h n d' cs' x.
+        let z : concrete size d (parts_of code.table.bytes.now v) ≡ concrete n d' cs' = layout_known l y y' st.table p h ∙ x in
         let u : parts_of code.table.bytes.now v ≡ cs' = cc in
-        rw u at (f st k h);
+        rw u at (f st p chosen h);
   }
 
 module _ {t : Table} {ty : ℕ} {r : TypeLayout} {size d : ℕ} {b : Array} {cs : Components} (w : InTable t ty) (l : LayoutIs t ty r)
@@ -70,7 +71,7 @@ module _ {code : CodeSetting} {ty : ℕ} {r : TypeLayout} {size d : ℕ} {b : Ar
   pub finds_element : {from s e : ℕ} {a : Option Component} → from ≡ 0 → InElements code b s e a → Finds code ty from s e a
   finds_element {from} {s} {e} {a} z h =
       finds l y y' a (from_known a (λ c x. rw x (element_below w l y y')) h.type)
-      λ st k below. rw z (h.is st k (element_in w l y y' st.table k.placed below).1)
+      λ st p chosen below. rw z (h.is st (p b.elem (element_in w l y y' st.table p below).1) chosen)
 
 module _ {t : Table} {ty : ℕ} {r : TypeLayout} {size d : ℕ} {fs : FieldList} {cs : Components} (w : InTable t ty) (l : LayoutIs t ty r)
     (y : r ≡ Concrete size d cs) (y' : cs ≡ Fields fs) where
@@ -89,4 +90,4 @@ module _ {code : CodeSetting} {ty : ℕ} {r : TypeLayout} {size d : ℕ} {fs : F
   pub finds_field : {from s e : ℕ} {a : Option Component} → InFields code.table fs from s e a → Finds code ty from s e a
   finds_field {a = a} h =
       finds l y y' a (from_known a (λ c f. (field_in w l y y' w.layouts w.placed w.below f).0) h.type)
-      λ st k below. h.is st λ c f. k.placed c (field_in w l y y' st.table k.placed below f).1
+      λ st p chosen below. h.is st λ c f. p c (field_in w l y y' st.table p below f).1

@@ -4,9 +4,10 @@ use Rattle.std.specs.Prelude.{ℕ, zero, suc, ◌+◌, ◌*◌, ◌≤◌, ◌<�
 use Rattle.std.proofs.Math.Option.{Option as Maybe, none as nothing, some}
 use Rattle.definitions.specs.Table.{Table as Layouts, Setting, Components as Parts, scalar, elements, fields, concrete, layout_of, fixed_size, is_dynamic}
 use Rattle.definitions.specs.Containment.{Inside, in_elements, in_fields}
+use Rattle.qptr.specs.Choices.{choices_in}
 use Rattle.numbers.specs.Words.{word}
 use Rattle.layout.specs.Bytes.{fields_at}
-use Rattle.layout.specs.Located.{Located, Known, InTable}
+use Rattle.layout.specs.Located.{Located, AllLocated, InTable}
 use Rattle.layout.specs.declared.table.Array.{Array}
 use Rattle.layout.specs.declared.containment.Component.{Component}
 use Rattle.layout.specs.declared.setting.Setting.{Setting as CodeSetting}
@@ -34,11 +35,11 @@ Next from i None = from i ≡ []
 abbrev pub From : (ℕ → Type 0) → Option Component → Type 0
 From P r = IfSome r (λ c. P c.ty)
 
--- The parts of a layout. What is said holds of every setting that the code's stands for, and of fields by any choices.
+-- The parts of a layout. What is said holds of every setting whose records stand in the code's table, and of elements with the code's choices.
 
 pub record InElements (code : CodeSetting) (a : Array) (s e : ℕ) (r : Option Component) : Type 0 where
   pub type : From (λ c. c ≡ a.elem) r
-  pub is : (st : Setting) → Known code st → a.elem < length st.table → Next (containing_from st (elements a.stride a.elem a.len) s e) 0 r
+  pub is : (st : Setting) → Located code.table st.table a.elem → choices_in code.choices ≡ st.choices → Next (containing_from st (elements a.stride a.elem a.len) s e) 0 r
 
 -- a field contains the range
 pub record Contains (t : Table) (f : Field) (s e : ℕ) (r : Bool) : Type 0 where
@@ -65,5 +66,5 @@ pub record InFields (t : Table) (fs : FieldList) (from s e : ℕ) (r : Option Co
 
 pub record Finds (code : CodeSetting) (ty from s e : ℕ) (r : Option Component) : Type 0 where
   pub earlier : From (λ c. c < ty) r
-  pub is : (st : Setting) → Known code st → ty < length st.table →
+  pub is : (st : Setting) → AllLocated code.table st.table → choices_in code.choices ≡ st.choices → ty < length st.table →
       (n d : ℕ) (cs : Parts) → layout_of st.table ty ≡ concrete n d cs → Next (containing_from st cs s e) from r

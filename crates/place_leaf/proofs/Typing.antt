@@ -18,6 +18,8 @@ use Rattle.qptr.specs.declared.Kind.TheVariants.{Unused, StrictlyTyped, DirectAc
 use Rattle.records.specs.Records.{command_in, argument_in}
 use Rattle.record_links.specs.Standing.{Stands}
 use Rattle.record_links.proofs.Stands.{stands_root}
+use Rattle.qptr.specs.Choices.{choices_in}
+use Rattle.layout.specs.Located.{Known}
 use Rattle.layout.specs.declared.setting.Setting.{Setting as CodeSetting}
 use Rattle.support_cache.proofs.Roots.{command_of_kind}
 use Rattle.place_states.specs.Calls.{Two, Ready}
@@ -90,9 +92,13 @@ typed_at zero (array z n v) e = let z : ◌≡◌ {A = ℕ} 0 1 = cc in absurd (
 -- what may be asked
 
 module _ {code : CodeSetting} {s : List ℕ} {a b : ℕ} (R : Ready code s a b) where
-  pub askable_right : {ty : ℕ} → Typed (command_in s a) → ty ≡ argument_in s a → Askable code ty s b
-  askable_right {ty} T e = record {
-    type = record { setting = R.setting; known = R.known; below = go (left_leaf R.two T) R.two };
+  -- whatever is chosen
+  known_with : {asked : CodeSetting} → asked.table ≡ code.table → Known asked (record { table = R.setting.table; choices = choices_in asked.choices })
+  known_with same = record { read = rw same R.known.read; placed = rw same R.known.placed; chosen = refl }
+
+  pub askable_right : {asked : CodeSetting} {ty : ℕ} → asked.table ≡ code.table → Typed (command_in s a) → ty ≡ argument_in s a → Askable asked ty s b
+  askable_right {asked} {ty} same T e = record {
+    type = record { setting = record { table = R.setting.table; choices = choices_in asked.choices }; known = known_with same; below = go (left_leaf R.two T) R.two };
     usage = record {
       usage = R.u;
       rank = R.r;

@@ -12,9 +12,9 @@ abbrev pub to_first : Ties → Bool
 to_first Second = false
 to_first First = true
 
-abbrev pub is_strict : Lookup → Bool
-is_strict Lenient = false
-is_strict Strict = true
+abbrev pub strict_lookup_in : Lookup → Bool
+strict_lookup_in Lenient = false
+strict_lookup_in Strict = true
 
 unfoldable pub choices_in : Choices → Chosen
-choices_in c = record { ties_to_first = to_first c.ties; strict_lookup = is_strict c.lookup }
+choices_in c = record { ties_to_first = to_first c.ties; strict_lookup = strict_lookup_in c.lookup }

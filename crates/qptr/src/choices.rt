@@ -1,7 +1,7 @@
 // The choices that a call is made with, beside its table.
 ghost use Rattle.std.specs.Prelude.{◌≡◌, eqb};
 ghost use Rattle.definitions.specs.Requests.Choices.{choices_of};
-ghost use Rattle.qptr.specs.Choices.{to_first, is_strict, choices_in};
+ghost use Rattle.qptr.specs.Choices.{to_first, strict_lookup_in, choices_in};
 
 // Who receives on a full tie of size and strictness.
 #[derive(Clone, Copy, PartialEq, Eq)]
@@ -27,7 +27,7 @@ pub enum Lookup {
 
 impl Lookup {
     fn of(bit: u32) -> Lookup
-        ensures { is_strict result ≡ eqb bit 1 }
+        ensures { strict_lookup_in result ≡ eqb bit 1 }
     {
         if bit == 1 {
             Lookup::Strict

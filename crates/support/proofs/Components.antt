@@ -37,7 +37,7 @@ module _ {code : CodeSetting} {ty at : ℕ} {s : List ℕ} {q : ℕ} where
   module _ {end from : ℕ} {r : Option Component} (h : AskedFrom code ty at s q end from) (f : Finds code ty from at end r) where
     next_is : {v : Option Component} → r ≡ v → (st : Setting) → Known code st → ty < length st.table →
         (n d : ℕ) (cs : Parts) → layout_of st.table ty ≡ concrete n d cs → Next (containing_from st cs at end) from v
-    next_is y st k b n d cs l = rw y at (f.is st k b n d cs l)
+    next_is y st k b n d cs l = rw y at (f.is st k.placed k.chosen b n d cs l)
 
     module _ {c : Component} {v : Bool} (y : r ≡ Some c) (g : Supports code c.ty c.rest s q v) where
       -- the component at the index, and those after it

@@ -57,7 +57,7 @@ load-requires c =
 pub supports_usage_at_offset-requires : goal.supports_usage_at_offset-requires
 supports_usage_at_offset-requires c =
     let t = c.in_ok-types.ensures.good in
-    memory_askable t c.args.choices c.args.ty c.args.offset (memory (goal.at.supports_usage_at_offset-requires c).In_ok-found) c.max.ensures c.from.ensures c.in_ok-known_types.ensures
+    memory_askable t _ c.args.ty c.args.offset (memory (goal.at.supports_usage_at_offset-requires c).In_ok-found) c.max.ensures c.from.ensures c.in_ok-known_types.ensures
     (holds_whole refl refl) c.load.ensures c.in_ok-few_nodes.ensures (omega (arith, t.enough, c.load.auto.work, c.memory.auto.window))
 
 pub returns : goal.returns
