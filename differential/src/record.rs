@@ -7,7 +7,7 @@ use crate::generate::{Calls, Source};
 use crate::notation::report_commands;
 use crate::reading::bytes::{Reader, put_four};
 use crate::reading::calls::WORK_AREA;
-use crate::reading::report::{AT_NODE, CONFLICTS};
+use crate::reading::report::{AT_NODE, CONFLICTS, UNLIKE};
 use crate::reading::{Reading, Refusal};
 use crate::rows::{Row, bench, directed, limits, printed_example, with_choices};
 use crate::side::{
@@ -47,7 +47,7 @@ impl Recorded {
 }
 
 /// The fixed list: all worked rows, then generated calls of every category; then the rows with other
-/// choices, generated calls with each of these, and large ones with all choices made.
+/// choices, and generated calls, small and large ones, with each of these.
 pub fn recorded(reference: &dyn Side, reading: &dyn Side) -> Result<Vec<Recorded>, String> {
     let mut list = List { sides: [reference, reading], calls: Vec::new() };
     list.add_rows([bench(), vec![printed_example()], directed(), limits()].concat())?;
@@ -58,9 +58,10 @@ pub fn recorded(reference: &dyn Side, reading: &dyn Side) -> Result<Vec<Recorded
         }
     }
     list.add_rows(with_choices())?;
-    let others = all_choices().split_off(1);
-    others.iter().try_for_each(|choices| list.add_with(*choices))?;
-    others.last().map_or(Ok(()), |all| list.add_large_with(*all))?;
+    for choices in all_choices().split_off(1) {
+        list.add_with(choices)?;
+        list.add_large_with(choices)?;
+    }
     Ok(list.calls)
 }
 
@@ -117,13 +118,18 @@ impl List<'_> {
         Ok(())
     }
 
-    /// Adds for each kind of call a large one that has too many nodes, and one in which the choices
-    /// show.
+    /// Adds for each kind of call the shortest large one that has too many nodes, and the shortest
+    /// in which the choices show, if they show in any: the lookup alone does not.
     fn add_large_with(&mut self, choices: Choices) -> Result<(), String> {
         for kind in CallKind::ALL.into_iter().filter(|kind| kind.takes(choices)) {
-            let large = Calls::new(kind, Source::Large, SEED).with(choices).take(50);
-            let variety = &mut Variety::new(Looks::roughly, 1);
-            self.add_various(large.filter(is_telling), 2, variety)?;
+            let large = Calls::new(kind, Source::Large, SEED).with(choices).take(200);
+            let mut large: Vec<_> = large.filter(is_large).collect();
+            large.sort_by_key(input_bytes);
+            for is_telling in [has_too_many_nodes, choices_show_in] {
+                if let Some(call) = large.iter().find(|call| is_telling(call)) {
+                    self.calls.push(self.answered(call.clone())?);
+                }
+            }
         }
         Ok(())
     }
@@ -137,10 +143,20 @@ fn is_small(call: &Call) -> bool {
     call.first.len() + call.second.len() + call.table.len() < 600
 }
 
-/// Whether a large call has too many nodes, or its choices show.
-fn is_telling(call: &Call) -> bool {
-    let answer = Reading::FAULTLESS.answer(call);
-    answer.number == Refusal::TooManyNodes.number() || choices_shown(call, &answer) != 0
+fn is_large(call: &Call) -> bool {
+    input_bytes(call) > 2_500
+}
+
+fn input_bytes(call: &Call) -> usize {
+    call.first.len() + call.second.len()
+}
+
+fn has_too_many_nodes(call: &Call) -> bool {
+    Reading::FAULTLESS.answer(call).number == Refusal::TooManyNodes.number()
+}
+
+fn choices_show_in(call: &Call) -> bool {
+    choices_shown(call, &Reading::FAULTLESS.answer(call)) != 0
 }
 
 /// How many generated calls of a kind are taken from each source.
@@ -167,7 +183,7 @@ fn wanted(kind: CallKind) -> [(Source, usize); 4] {
 struct Looks {
     number: u64,
     yes: u64,
-    /// The first commands of the report.
+    /// Some commands of the report.
     commands: Vec<u8>,
     /// Up to a few.
     pairings: u64,
@@ -175,24 +191,33 @@ struct Looks {
 }
 
 impl Looks {
+    /// With the first commands of the report, and with pairings.
     fn closely(recorded: &Recorded) -> Looks {
-        Looks::of(recorded, 4, 6)
+        let commands = commands(&recorded.answer).take(4).collect();
+        Looks::of(recorded, commands, 6)
     }
 
+    /// With the first command and the last, which is no head of another.
     fn roughly(recorded: &Recorded) -> Looks {
-        Looks::of(recorded, 1, 0)
+        let first = commands(&recorded.answer).next();
+        let last = commands(&recorded.answer).last();
+        Looks::of(recorded, first.into_iter().chain(last).collect(), 0)
     }
 
-    fn of(Recorded { call, answer }: &Recorded, commands: usize, pairings: u64) -> Looks {
-        let met = report_commands(answer.conflicts()).into_iter().map(|(command, _)| command);
+    fn of(Recorded { call, answer }: &Recorded, commands: Vec<u8>, pairings: u64) -> Looks {
         Looks {
             number: answer.number,
             yes: answer.yes,
-            commands: met.take(commands).collect(),
+            commands,
             pairings: answer.pairings.min(pairings),
             choices_shown: choices_shown(call, answer),
         }
     }
+}
+
+/// The commands of an answer's report, in order.
+fn commands(answer: &Answer) -> impl Iterator<Item = u8> {
+    report_commands(answer.conflicts()).into_iter().map(|(command, _)| command)
 }
 
 /// Takes only so many calls that look alike, so that the list shows many things.
@@ -209,8 +234,7 @@ impl Variety {
 
     fn is_new_enough(&mut self, recorded: &Recorded) -> bool {
         let call = &recorded.call;
-        let large = call.first.len() + call.second.len() > 2_500;
-        if !is_small(call) && !large {
+        if !is_small(call) && !is_large(call) {
             return false;
         }
         let seen = self.seen.entry((self.looks)(recorded)).or_default();
@@ -231,33 +255,40 @@ fn numbers(kind: CallKind) -> &'static [u64] {
 }
 
 /// What the list must show with the default choices, and with others: every end of every call, yes
-/// and no, every conflict; and with each of the others every choice made.
+/// and no, every conflict of every call that reports; and with each of the others every choice made,
+/// and too many nodes.
 pub fn check_coverage(list: &[Recorded]) -> Result<(), String> {
     let is_default = |one: &&Recorded| one.call.choices == Choices::default();
     let (default, others): (Vec<_>, Vec<_>) = list.iter().partition(is_default);
     for kind in CallKind::ALL {
-        check_ends(kind, &default)?;
+        check_shown(kind, &default)?;
         if kind.takes_choices() {
-            check_ends(kind, &others).map_err(|words| format!("with choices: {words}"))?;
+            check_shown(kind, &others).map_err(|words| format!("with choices: {words}"))?;
         }
     }
-    check_conflicts(&default)?;
-    check_conflicts(&others).map_err(|words| format!("with choices: {words}"))?;
-    all_choices().into_iter().try_for_each(|choices| check_choices(choices, &others))?;
+    for choices in all_choices().split_off(1) {
+        let made: Vec<_> = others.iter().filter(|one| one.call.choices == choices).collect();
+        for kind in CallKind::ALL.into_iter().filter(|kind| kind.takes(choices)) {
+            check_choices(kind, choices, &made)
+                .map_err(|words| format!("choices {}: {words}", choices.number()))?;
+        }
+    }
     check_limits(list)
 }
 
-/// In every kind of call that a choice matters to, some answer is another one without it.
-fn check_choices(choices: Choices, list: &[&Recorded]) -> Result<(), String> {
-    for kind in CallKind::ALL {
-        let made = list.iter().filter(|one| (one.call.kind, one.call.choices) == (kind, choices));
-        let shown = made.map(|one| choices_shown(&one.call, &one.answer));
-        let shown = shown.fold(0, |all, shown| all | shown);
-        let missing = mattering(kind, choices).number() & !shown;
-        if missing != 0 {
-            let number = choices.number();
-            return Err(format!("choices {number}: no recorded {kind} shows {missing}"));
-        }
+/// Of the calls with these choices and of this kind some have too many nodes, and some answer is
+/// another one without each choice that matters to them.
+fn check_choices(kind: CallKind, choices: Choices, made: &[&&Recorded]) -> Result<(), String> {
+    let of_kind = || made.iter().filter(|one| one.call.kind == kind);
+    let shown = of_kind().map(|one| choices_shown(&one.call, &one.answer));
+    let shown = shown.fold(0, |all, shown| all | shown);
+    let missing = mattering(kind, choices).number() & !shown;
+    if missing != 0 {
+        return Err(format!("no recorded {kind} shows {missing}"));
+    }
+    let too_many = Refusal::TooManyNodes.number();
+    if numbers(kind).contains(&too_many) && !of_kind().any(|one| one.answer.number == too_many) {
+        return Err(format!("no recorded {kind} ends with {too_many}"));
     }
     Ok(())
 }
@@ -270,6 +301,11 @@ fn mattering(kind: CallKind, choices: Choices) -> Choices {
         CallKind::Place | CallKind::Merge | CallKind::Fold => choices,
         CallKind::Sound => Choices::default(),
     }
+}
+
+fn check_shown(kind: CallKind, list: &[&Recorded]) -> Result<(), String> {
+    check_ends(kind, list)?;
+    check_conflicts(kind, list)
 }
 
 fn check_ends(kind: CallKind, list: &[&Recorded]) -> Result<(), String> {
@@ -286,12 +322,22 @@ fn check_ends(kind: CallKind, list: &[&Recorded]) -> Result<(), String> {
     Ok(())
 }
 
-fn check_conflicts(list: &[&Recorded]) -> Result<(), String> {
-    let conflicts = list.iter().flat_map(|one| report_commands(one.answer.conflicts()));
-    let met: HashSet<u8> = conflicts.map(|(command, _)| command).collect();
-    match (CONFLICTS..=AT_NODE).find(|command| !met.contains(command)) {
-        Some(command) => Err(format!("no recorded call reports {command:x}")),
+fn check_conflicts(kind: CallKind, list: &[&Recorded]) -> Result<(), String> {
+    let of_kind = list.iter().filter(|one| one.call.kind == kind);
+    let met: HashSet<u8> = of_kind.flat_map(|one| commands(&one.answer)).collect();
+    let mut missing = (CONFLICTS..=AT_NODE).filter(|command| !met.contains(command));
+    match missing.find(|command| can_report(kind, *command)) {
+        Some(command) => Err(format!("no recorded {kind} reports {command:x}")),
         None => Ok(()),
+    }
+}
+
+/// Tops are merged alone, and nodes are told of a fold alone.
+fn can_report(kind: CallKind, command: u8) -> bool {
+    match command {
+        UNLIKE => kind == CallKind::Merge,
+        AT_NODE => kind == CallKind::Fold,
+        _ => kind.writes(),
     }
 }
 

@@ -2,15 +2,19 @@
 
 use differential::compare::{Category, check_promise, choices_show, choices_shown, compare, judge};
 use differential::generate::{Calls, Source};
+use differential::notation::report_commands;
 use differential::reading::Reading;
 use differential::reading::faults::{Fault, Faults};
 use differential::reading::sound::is_sound;
 use differential::reading::streams::{read_list, read_top};
-use differential::record::{Recorded, from_bytes, to_bytes};
+use differential::record::{Recorded, check_coverage, from_bytes, to_bytes};
 use differential::reference::Reference;
 use differential::rows::{Row, lookup, ties};
-use differential::side::{Answer, Call, CallKind, Choices, Lookup, Side, Ties, all_choices};
+use differential::side::{
+    Answer, Buffer, Call, CallKind, Choices, Lookup, Side, Ties, all_choices,
+};
 use differential::theorems::small_calls;
+use std::fs::read;
 
 fn to_first() -> Choices {
     Choices::default().with_ties(Ties::First)
@@ -132,6 +136,86 @@ fn what_is_supported_strictly_is_supported() {
         for call in Calls::new(CallKind::Supports, source, 3).take(10_000) {
             let [lenient, strict] = [Choices::default(), strict()].map(|ch| answer_with(&call, ch));
             assert!(strict.yes <= lenient.yes && strict.number == lenient.number, "{call}");
+        }
+    }
+}
+
+/// Whether the answers under the two lookups are the same but for the report, and the lenient report
+/// is, command by command, in the strict one.
+fn differ_in_report_alone([lenient, strict]: &[Answer; 2]) -> bool {
+    let Answer { report_length, report, .. } = strict.clone();
+    let alike = Answer { report_length, report, ..lenient.clone() } == *strict;
+    let refused_alike = strict.number == 0 || lenient == strict;
+    let no_shorter = lenient.report_length <= strict.report_length;
+    alike && refused_alike && no_shorter && stands_in(lenient.conflicts(), strict.conflicts())
+}
+
+/// Whether the commands of one report are, in order, among those of the other.
+fn stands_in(shorter: &[u8], longer: &[u8]) -> bool {
+    let mut longer = report_commands(longer).into_iter();
+    report_commands(shorter).into_iter().all(|one| longer.any(|other| other == one))
+}
+
+/// What the strict lookup changes of generated calls under both tie rules: how many reports are others,
+/// and how many of these do not fit, so that they are seen with more room; or the first call that it
+/// changes more of.
+fn what_strict_changes(
+    side: &Reading,
+    kind: CallKind,
+    source: Source,
+) -> Result<[usize; 2], Box<Call>> {
+    let mut counts = [0; 2];
+    for call in Calls::new(kind, source, 8).take(5_000) {
+        for choices in [Choices::default(), to_first()] {
+            let both = [choices, choices.with_lookup(Lookup::Strict)];
+            let ask = |call: &Call| both.map(|choices| side.answer(&call.clone().with(choices)));
+            let mut answers = ask(&call);
+            if answers.each_ref().map(|answer| answer.number) == [0, 11] {
+                counts[1] += 1;
+                answers = ask(&with_room(&call));
+            }
+            if !differ_in_report_alone(&answers) {
+                return Err(Box::new(call));
+            }
+            counts[0] += usize::from(answers[0].report != answers[1].report);
+        }
+    }
+    Ok(counts)
+}
+
+/// The call with a report buffer that is longer than any report of small usages.
+fn with_room(call: &Call) -> Call {
+    let length = call.report.length + 4_096;
+    Call { report: Buffer { length, ..call.report }, ..call.clone() }
+}
+
+const WRITING: [CallKind; 3] = [CallKind::Place, CallKind::Merge, CallKind::Fold];
+
+/// What is proved of the definitions: of what is placed, merged or folded the strict lookup changes the
+/// report alone, which it makes no shorter; so no refusal is another one, but for 11.
+#[test]
+fn the_strict_lookup_changes_the_report_alone() {
+    for kind in WRITING {
+        for source in [Source::Unsound, Source::Tied, Source::Brink] {
+            let counts = what_strict_changes(&Reading::FAULTLESS, kind, source);
+            let [reports, unfit] = counts.unwrap_or_else(|call| panic!("more than that:\n{call}"));
+            println!("{kind}, {source}: {reports} reports are others, and {unfit} do not fit");
+            let least = if source == Source::Brink { [2_000, 1] } else { [0, 0] };
+            assert!(reports >= least[0] && unfit >= least[1], "{kind}, {source}");
+        }
+    }
+}
+
+/// A lookup that refuses too much changes more, and one that is exchanged for the other leaves out
+/// what the other reports.
+#[test]
+fn a_wrong_lookup_changes_more_than_the_report() {
+    let faults = [Fault::LookupNegated, Fault::LookupNoLengthAtZero, Fault::LookupEmptyNowhere];
+    for side in faults.map(Reading::with) {
+        for kind in WRITING {
+            let sees = |source| what_strict_changes(&side, kind, source).is_err();
+            let seen = [Source::Brink, Source::Unsound].into_iter().any(sees);
+            assert!(seen, "{kind}: {:?} goes unseen", side.faults);
         }
     }
 }
@@ -326,6 +410,42 @@ fn recorded_choices_are_known_ones() {
     }
     // soundness takes none
     assert!(with_choices(answered(CallKind::Sound, Choices::default()), 1).is_none());
+}
+
+/// What the recorded answers lack if only those are kept that are asked for.
+fn lacks(kept: impl Fn(&Call, &Answer) -> bool) -> Option<String> {
+    let path = concat!(env!("CARGO_MANIFEST_DIR"), "/../crates/replay/data/answers.bin");
+    let mut list = from_bytes(&read(path).expect("the recorded answers")).expect("a list");
+    list.retain(|one| kept(&one.call, &one.answer));
+    check_coverage(&list).err()
+}
+
+#[test]
+fn recorded_answers_show_all_that_is_asked_of_them() {
+    assert_eq!(lacks(|_, _| true), None);
+    for choices in all_choices().split_off(1) {
+        for kind in [CallKind::Supports, CallKind::Place, CallKind::Merge, CallKind::Fold] {
+            let is_that = |call: &Call| (call.kind, call.choices) == (kind, choices);
+            let words = format!("choices {}: no recorded {kind} ends with 7", choices.number());
+            assert_eq!(lacks(|call, answer| !is_that(call) || answer.number != 7), Some(words));
+        }
+    }
+}
+
+/// The heads 30 and 31 stand before one of these.
+#[test]
+fn recorded_answers_show_each_conflict_of_each_call() {
+    for kind in WRITING {
+        for command in 0x32..=0x36 {
+            let reports = |answer: &Answer| {
+                let met = report_commands(answer.conflicts());
+                met.into_iter().any(|(met, _)| met == command)
+            };
+            let is_that = |call: &Call| call.kind == kind && call.choices != Choices::default();
+            let words = format!("with choices: no recorded {kind} reports {command:x}");
+            assert_eq!(lacks(|call, answer| !is_that(call) || !reports(answer)), Some(words));
+        }
+    }
 }
 
 /// Every third generated call that becomes a theorem is made with choices, if it takes any.

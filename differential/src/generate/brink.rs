@@ -1,5 +1,5 @@
-//! Usages that stand where an array ends: at the index that is its length, or an element before it,
-//! or an element or a byte behind it.
+//! Usages that stand where an array ends: at the index that is its length, or an element below it,
+//! or an element or a byte above it.
 
 use super::tables::types;
 use super::usages::Maker;

@@ -83,7 +83,7 @@ impl Setting<'_> {
     ) -> Option<Containing> {
         let index = start / stride;
         let end = self.end(start, usage);
-        if self.is_strict_with(Fault::LookupEmptyNowhere) && end == u64::from(start) {
+        if self.lookup_is_strict_with(Fault::LookupEmptyNowhere) && end == u64::from(start) {
             return None;
         }
         let size = match index == length && length != 0 {
@@ -99,9 +99,11 @@ impl Setting<'_> {
     /// one, its size, above it nothing.
     fn element_size(&self, ty: u32, index: u32, length: u32) -> Option<u32> {
         let last = length.checked_sub(1) == Some(index);
-        let refused = (last && self.is_strict_with(Fault::LookupLastElement))
-            || (length == 0 && self.is_strict_with(Fault::LookupNoLength))
-            || (length == index && self.is_strict_with(Fault::LookupNoLengthAtZero));
+        let refused = (last && self.lookup_is_strict_with(Fault::LookupLastElement))
+            || (length == 0 && self.lookup_is_strict_with(Fault::LookupNoLength))
+            || (length == 0
+                && index == 0
+                && self.lookup_is_strict_with(Fault::LookupNoLengthAtZero));
         let reached = length == 0 || index < length || self.on(Fault::ContainsPastLength);
         let size = self.table.concrete(ty)?.size;
         (reached && !refused).then_some(size)
@@ -114,28 +116,29 @@ impl Setting<'_> {
             Size::Fixed(_) => self.on(Fault::LookupFixedLenient),
             Size::Dynamic => self.on(Fault::LookupDynamicLenient),
         };
-        if self.is_strict() && !let_through {
+        if self.lookup_is_strict() && !let_through {
             return None;
         }
         let full = self.on(Fault::ContainsFullAtLength) || self.on(Fault::ContainsPastLength);
         Some(if full { self.table.concrete(ty)?.size } else { 0 })
     }
 
-    fn is_strict(&self) -> bool {
+    fn lookup_is_strict(&self) -> bool {
         let asked = self.unless_deaf(Fault::LookupNeverAsked);
         (asked.choices.lookup == Lookup::Strict) != self.on(Fault::LookupNegated)
     }
 
     /// Whether a fault of the strict lookup alone shows.
-    fn is_strict_with(&self, fault: Fault) -> bool {
-        self.on(fault) && self.is_strict()
+    fn lookup_is_strict_with(&self, fault: Fault) -> bool {
+        self.on(fault) && self.lookup_is_strict()
     }
 
     fn field_contains(&self, field: &Field, start: u32, end: u64) -> bool {
         let Some(layout) = self.table.concrete(field.ty) else { return false };
         let open = layout.dynamic_stride != 0 && !self.on(Fault::ContainsDynamicEnds);
         let field_end = u64::from(field.offset) + u64::from(layout.size);
-        let refused = self.is_strict_with(Fault::LookupFieldEnds) && u64::from(start) == field_end;
+        let refused =
+            self.lookup_is_strict_with(Fault::LookupFieldEnds) && u64::from(start) == field_end;
         field.offset <= start && (open || end <= field_end) && !refused
     }
 
@@ -200,7 +203,7 @@ impl Setting<'_> {
         let non_zero = size != 0 || self.on(Fault::SupportsArrayOfZero);
         let end = u64::from(offset / stride) + u64::from(size / stride);
         let shorter = self.on(Fault::SupportsArrayShorter) && end < u64::from(length);
-        let equal = end == u64::from(length) && !self.is_strict_with(Fault::LookupArrayEnds);
+        let equal = end == u64::from(length) && !self.lookup_is_strict_with(Fault::LookupArrayEnds);
         length != 0 && divisible && non_zero && (equal || shorter)
     }
 }

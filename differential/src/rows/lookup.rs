@@ -283,7 +283,7 @@ fn ends_of_fields() -> Vec<Row> {
     questions(STRUCTS, &asked)
 }
 
-/// Behind the length, and at it what its element would not support, or what is supported anyway.
+/// Above the length, and at it what its element would not support, or what is supported anyway.
 fn elsewhere() -> Vec<Row> {
     let of_bench = [
         (3, 16, "D0,1", false),
