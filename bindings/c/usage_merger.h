@@ -118,7 +118,9 @@ enum qptr_choice {
      * last element, up to its end; whatever is in an array without a length (0 in the table); and in
      * a struct what is at a field's end. A type is looked up where it is asked whether it supports a
      * usage: by qptr_supports, and in merging where a typed leaf receives. So merging may report more
-     * conflicts of types (32); the usage that it writes and the pairings are the same. */
+     * conflicts of types (32). The usage, the pairings and what is refused are the same, but for 11: a
+     * buffer that suffices for the lenient report may be too short for the longer one, and then, as
+     * with any refusal, nothing is written. QPTR_LONGEST_REPORT bytes always suffice. */
     QPTR_STRICT_LOOKUP = 2
 };
 
@@ -162,9 +164,12 @@ void qptr_fold(const uint8_t *table, size_t table_length, uint8_t *work, size_t 
                uint8_t *output, size_t output_length, uint8_t *report, size_t report_length,
                uint64_t answer[QPTR_ANSWER_LENGTH]);
 
-/* The same calls with choices. All else is as without: formats, refusals and their order, buffers,
- * work area, and what is promised of sound usages. With choices 0 they give the same answers.
- * qptr_sound has no such twin, since nothing that can be chosen touches it. */
+/* The same calls with choices. Formats, what the refusals mean and their order, how buffers are
+ * written, the work area, and what is promised of sound usages are as without. What is chosen may
+ * change the answer, and so whether it is refused: ties to the first with 8 to 11, the strict lookup
+ * with 11 alone. Buffers of QPTR_LONGEST_OUTPUT and QPTR_LONGEST_REPORT bytes suffice with any
+ * choices. With choices 0 they give the same answers. qptr_sound has no such twin, since nothing
+ * that can be chosen touches it. */
 
 /* The tie rule touches it. The lookup does not: no type is asked. */
 uint32_t qptr_receiver_with(uint32_t choices, const uint8_t *first, size_t first_length,

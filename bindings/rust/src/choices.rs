@@ -20,7 +20,7 @@ pub enum Ties {
 /// What an array type contains one past its last element: at the index that is its length.
 ///
 /// It is asked wherever a type is asked whether it supports a usage: in `supports`, and where a leaf
-/// is merged. Below the length, behind it, and in arrays without one, it changes nothing; nor do the
+/// is merged. Below the length, above it, and in arrays without one, it changes nothing; nor do the
 /// ends of structs ask for it.
 #[derive(Clone, Copy, Debug, Default, PartialEq, Eq, Hash)]
 pub enum Lookup {

@@ -142,7 +142,7 @@ impl UsageMerger {
     /// ```
     ///
     /// With the strict lookup, an access one past an array's last element conflicts with the array. The
-    /// merged usage and the pairings are the same. Choices combine:
+    /// merged usage, the pairings and what is refused are the same. Choices combine:
     ///
     /// ```
     /// # use usage_merger::{Choices, ConflictKind, Lookup, QPtrMemUsage, Table, Ties, UsageMerger};

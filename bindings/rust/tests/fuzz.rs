@@ -299,14 +299,15 @@ fn the_tie_rules_are_each_other_exchanged() {
 
 /// Arrays with these lengths, in a struct and in each other, and one of a dynamic size. The two mergers
 /// differ in the lookup.
-fn lookups([a, b, c]: [u32; 3]) -> [UsageMerger; 2] {
+fn lookups([a, b, c]: [u32; 3], ties: Ties) -> [UsageMerger; 2] {
     let table = format!(
         "scalar 4; elements 16 (4, 0, {a}); fields 24 {{0:1 16:0}}; elements 32 (16, 1, {b}); \
          scalar 1+1; elements 8+4 (4, 4, {c})"
     );
     let merger = UsageMerger::new(&table.parse().unwrap()).unwrap();
+    let choices = Choices::default().with_ties(ties);
     [Lookup::Lenient, Lookup::Strict]
-        .map(|lookup| merger.clone().with_choices(Choices::default().with_lookup(lookup)))
+        .map(|lookup| merger.clone().with_choices(choices.with_lookup(lookup)))
 }
 
 /// Types of these tables, their sizes, and where an array ends in them.
@@ -329,42 +330,61 @@ fn near_an_end(rng: &mut Rng) -> (Type, QPtrMemUsage, u32, QPtrMemUsage) {
     (Type(ty), if rng.one_in(5) { any_usage(rng) } else { whole }, at, usage)
 }
 
-/// Whether the lookup decides about support, and about a placing. The strict one supports no more
-/// than the other; so there may be more conflicts of types, and all else is the same.
-fn decides(rng: &mut Rng, [lenient, strict]: &mut [UsageMerger; 2]) -> [bool; 2] {
+/// Whether the lookup decides about support, a placing, a merge and a fold. By the strict one types
+/// support no more than by the other, so there may be more conflicts of types; all else is the same.
+fn decides(rng: &mut Rng, [lenient, strict]: &mut [UsageMerger; 2]) -> [bool; 4] {
     let (ty, a, at, b) = near_an_end(rng);
+    let others = [near_an_end(rng).1, near_an_end(rng).3];
     let asked = |merger: &mut UsageMerger| merger.supports_usage_at_offset(ty, at, &b);
     let supports = (asked(strict), asked(lenient));
     let fewer = supports == (Ok(false), Ok(true));
     assert!(supports.0 == supports.1 || fewer, "{ty:?} at {at}: {b}");
-    let placed = |merger: &mut UsageMerger| merger.merge_mem_at(&a, at, &b);
-    let (strict, lenient) = match (placed(strict), placed(lenient)) {
+    let mut ask = |call: &dyn Fn(&mut UsageMerger) -> Result<MergeResult<QPtrMemUsage>, Error>| {
+        more_conflicts(call(strict), call(lenient))
+    };
+    let placed = ask(&|merger| merger.merge_mem_at(&a, at, &b));
+    let merged = ask(&|merger| merger.merge_mem(&a, &b));
+    let folded = ask(&|merger| merger.fold([&b, &a].into_iter().chain(&others)));
+    [fewer, placed, merged, folded]
+}
+
+/// Whether the strict lookup finds more: those of the lenient one are among its conflicts, in their
+/// order, and the others are of types.
+fn more_conflicts(
+    strict: Result<MergeResult<QPtrMemUsage>, Error>,
+    lenient: Result<MergeResult<QPtrMemUsage>, Error>,
+) -> bool {
+    let (strict, lenient) = match (strict, lenient) {
         (Ok(strict), Ok(lenient)) => (strict, lenient),
         (strict, lenient) => {
             assert_eq!(strict, lenient);
-            return [fewer, false];
+            return false;
         }
     };
     assert_eq!((&strict.merged, strict.pairings), (&lenient.merged, lenient.pairings));
-    let of_types = |answer: &MergeResult<QPtrMemUsage>| {
-        let is_type = |conflict: &&Conflict| conflict.kind == ConflictKind::Type;
-        answer.conflicts.iter().filter(is_type).count()
-    };
-    let (more, less) = (of_types(&strict), of_types(&lenient));
-    assert!(more >= less && more - less == strict.conflicts.len() - lenient.conflicts.len());
-    [fewer, more != less]
+    let mut left = lenient.conflicts.iter().peekable();
+    for conflict in &strict.conflicts {
+        let place = |conflict: &Conflict| (conflict.node, conflict.offsets.last().copied());
+        let same =
+            |other: &&Conflict| (place(other), other.kind) == (place(conflict), conflict.kind);
+        assert!(left.next_if(same).is_some() || conflict.kind == ConflictKind::Type);
+    }
+    assert_eq!(left.next(), None);
+    strict.conflicts.len() > lenient.conflicts.len()
 }
 
 #[test]
 fn the_strict_lookup_only_takes_support_away() {
-    let (mut with, mut without) = (lookups([4, 2, 2]), lookups([0, 0, 0]));
-    let mut decided = [0, 0];
+    let mut with = [Ties::First, Ties::Second].map(|ties| lookups([4, 2, 2], ties));
+    let mut without = lookups([0, 0, 0], Ties::Second);
+    let mut decided = [0; 4];
     fuzz(0.1, 8, |rng| {
-        let decides_here = decides(rng, &mut with);
-        decided = [0, 1].map(|which| decided[which] + u32::from(decides_here[which]));
-        assert_eq!(decides(rng, &mut without), [false; 2], "no array has a length");
+        let which = rng.below(2);
+        let decides_here = decides(rng, &mut with[which]);
+        decided = [0, 1, 2, 3].map(|call| decided[call] + u32::from(decides_here[call]));
+        assert_eq!(decides(rng, &mut without), [false; 4], "no array has a length");
     });
-    println!("decided: {decided:?} of questions and placings");
+    println!("decided: {decided:?} of questions, placings, merges and folds");
     assert!(decided.iter().all(|times| *times > 0));
 }
 

@@ -1,5 +1,6 @@
 //! What is asked, and the library's answer to it.
 
+use crate::lookup::{FoundBy, found_by};
 use usage_merger::{
     Choices, Conflict, Error, Lookup, MergeResult, QPtrMemUsage, QPtrUsage, Receiver, Table, Ties,
     UsageMerger,
@@ -24,8 +25,16 @@ pub struct Answer {
     /// Of two usages that are merged: which receives. Nothing is merged where they are handles, or
     /// a handle and a memory.
     pub received: Option<Received>,
-    /// How many conflicts there are by the lenient lookup, where the strict one finds others.
-    pub lenient: Option<usize>,
+    /// What the lenient lookup comes to, where the strict one finds more.
+    pub lenient: Option<Lenient>,
+}
+
+/// The lenient lookup's answer beside the strict one's. The usage and the pairings are the same.
+pub struct Lenient {
+    /// How many conflicts it finds.
+    pub conflicts: usize,
+    /// Of each conflict of the strict lookup, whether it finds it.
+    pub found_by: Vec<FoundBy>,
 }
 
 /// Which of two usages receives, and whether the tie rule decided it.
@@ -59,15 +68,17 @@ impl Question {
         Ok(Answer { result, sound, result_sound, received, lenient })
     }
 
-    /// Asks by the lenient lookup, too, if the strict one is chosen. Only conflicts can differ: which
-    /// type is kept is open between two leaves at one offset alone, and there no array is at its end.
-    fn lenient(&self, strict: &UsageMerger, found: &[Conflict]) -> Result<Option<usize>, Error> {
+    /// Asks by the lenient lookup, too, if the strict one is chosen. Reports alone can differ, and not
+    /// what is refused, the usage or the pairings: that is proved of the definitions (`LookupReports`).
+    fn lenient(&self, merger: &UsageMerger, strict: &[Conflict]) -> Result<Option<Lenient>, Error> {
         if self.choices.lookup == Lookup::Lenient {
             return Ok(None);
         }
         let choices = self.choices.with_lookup(Lookup::Lenient);
-        let conflicts = self.merged(&mut strict.clone().with_choices(choices))?.conflicts;
-        Ok((conflicts != found).then_some(conflicts.len()))
+        let lenient = self.merged(&mut merger.clone().with_choices(choices))?.conflicts;
+        let differ = lenient != strict;
+        Ok(differ
+            .then(|| Lenient { conflicts: lenient.len(), found_by: found_by(strict, &lenient) }))
     }
 
     fn merged(&self, merger: &mut UsageMerger) -> Result<MergeResult<QPtrUsage>, Error> {

@@ -4,6 +4,7 @@
 
 mod arguments;
 mod ask;
+mod lookup;
 mod picture;
 mod sheet;
 mod show;

@@ -2,7 +2,7 @@
 
 use crate::ask::{Answer, Question, name};
 use crate::sheet::Sheet;
-use crate::show::{chosen, conflict_words, soundness};
+use crate::show::{chosen, conflict_lines, soundness};
 use usage_merger::calls::MOST_NODES;
 use usage_merger::{Error, QPtrMemUsage, QPtrMemUsageKind, QPtrUsage};
 
@@ -55,8 +55,8 @@ pub fn draw(question: &Question, asked: Result<&Answer, Error>) -> Option<String
             let sound = soundness(merged, answer.result_sound);
             let chosen = chosen(question.choices);
             rows.push(row(&format!("result: {merged} ({sound}{chosen})"), merged.mem(), 0));
-            let line = |conflict| format!("conflict: {}", conflict_words(conflict));
-            words.extend(answer.result.conflicts.iter().map(line));
+            let line = |(conflict, mark)| format!("conflict{mark}: {conflict}");
+            words.extend(conflict_lines(answer).into_iter().map(line));
             if words.is_empty() {
                 words.push("no conflicts".into());
             }

@@ -1,6 +1,7 @@
 //! Answers and refusals in words.
 
 use crate::ask::{Answer, Question, Received, name};
+use crate::lookup::FoundBy;
 use std::fmt::Write;
 use usage_merger::shapes::Handle;
 use usage_merger::{
@@ -168,16 +169,28 @@ fn type_words(ty: Type, table: &Table) -> String {
 }
 
 fn conflicts(text: &mut String, answer: &Answer) {
-    let conflicts = &answer.result.conflicts;
-    let _ = writeln!(text, "{}", conflict_count(conflicts.len()));
-    for conflict in conflicts {
-        let _ = writeln!(text, "  {}", conflict_words(conflict));
+    let _ = writeln!(text, "{}", conflict_count(answer.result.conflicts.len()));
+    for (line, mark) in conflict_lines(answer) {
+        let _ = writeln!(text, "  {line}{mark}");
     }
-    if let Some(lenient) = answer.lenient {
-        let others = conflict_count(lenient);
-        let gives = format!("the lenient one gives the same usage and {others}");
-        let _ = writeln!(text, "the strict lookup decides this: {gives}");
+    if let Some(lenient) = &answer.lenient {
+        let others = conflict_count(lenient.conflicts);
+        let _ = writeln!(text, "the lenient lookup gives the same usage and {others}");
     }
+}
+
+/// A line for each conflict, and the mark of those that the strict lookup alone finds.
+pub fn conflict_lines(answer: &Answer) -> Vec<(String, &'static str)> {
+    let found_by = |index| answer.lenient.as_ref().and_then(|lenient| lenient.found_by.get(index));
+    let line = |(index, conflict)| {
+        let mark = match found_by(index) {
+            None | Some(FoundBy::Both) => "",
+            Some(FoundBy::Strict) => " (strict lookup only)",
+            Some(FoundBy::Unclear) => " (perhaps strict lookup only)",
+        };
+        (conflict_words(conflict), mark)
+    };
+    answer.result.conflicts.iter().enumerate().map(line).collect()
 }
 
 fn conflict_count(number: usize) -> String {
@@ -188,7 +201,7 @@ fn conflict_count(number: usize) -> String {
 }
 
 /// A conflict, with the name of the usage that was being merged in, if it is of a fold.
-pub fn conflict_words(conflict: &Conflict) -> String {
+fn conflict_words(conflict: &Conflict) -> String {
     match conflict.node {
         None => conflict.to_string(),
         Some(node) => {
