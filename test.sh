@@ -67,7 +67,7 @@ tested() { cargo test "${judge[@]}"; }
 compared() { cargo run "${judge[@]}" -- ci; }
 computed() {
   cargo run "${judge[@]}" -- compare --sides reference,library --count 20000
-  cargo run "${judge[@]}" -- compare --sides reading,library --choices 1,2,3 --count 20000
+  cargo run "${judge[@]}" -- compare --sides reading,library --choices 1,2,3 --count 10000
   cargo run "${judge[@]}" -- questions
   JUDGE=${CARGO_TARGET_DIR:-differential/target}/release/differential bash differential/definitions.sh
 }
