@@ -2,9 +2,7 @@
 //! index equal to its length.
 
 use super::Promise::{Gives, Receives, Refused, Says};
-use super::{
-    BENCH_TABLE, Promise, Row, bench, fold, merge, place, printed_example, receiver, supports,
-};
+use super::{BENCH_TABLE, Promise, Row, bench_without, fold, merge, place, receiver, supports};
 use crate::side::{Lookup, Ties};
 
 /// An array of four with a dynamic stride, so that dynamic usages fit it, and one without a length.
@@ -45,7 +43,8 @@ pub fn decided_by_lookup() -> Vec<Row> {
 /// Rows that are the same with the lenient lookup.
 pub fn whatever_lookup() -> Vec<Row> {
     let asked = [below_length(), without_length(), ends_of_fields(), elsewhere()].concat();
-    let merged = [bench_alike(), merges_alike(), places_alike(), never_looked_up()].concat();
+    let merged =
+        [bench_without(&merges()), merges_alike(), places_alike(), never_looked_up()].concat();
     strict([asked, merged, with_ties(alike_with_ties())].concat())
 }
 
@@ -308,14 +307,6 @@ fn elsewhere() -> Vec<Row> {
         vec![supports(BENCH_TABLE, 4, 16, "D0,0", Refused(6))],
     ]
     .concat()
-}
-
-/// Document 01's other bench pairs, and its printed example.
-fn bench_alike() -> Vec<Row> {
-    let streams = |row: &Row| [row.call.first.clone(), row.call.second.clone()];
-    let decided: Vec<_> = merges().iter().map(streams).collect();
-    let rows = bench().into_iter().chain([printed_example()]);
-    rows.filter(|row| !decided.contains(&streams(row))).collect()
 }
 
 fn merges_alike() -> Vec<Row> {

@@ -162,3 +162,11 @@ pub fn bench() -> Vec<Row> {
 pub fn printed_example() -> Row {
     merge(BENCH_TABLE, "O8[0:D4,1]", "D8,2", Promise::Gives("D8,2", "30, 31 0, 32", 2))
 }
+
+/// Document 01's bench pairs and its printed example, but for those that a choice decides.
+fn bench_without(decided: &[Row]) -> Vec<Row> {
+    let streams = |row: &Row| [row.call.first.clone(), row.call.second.clone()];
+    let decided: Vec<_> = decided.iter().map(streams).collect();
+    let rows = bench().into_iter().chain([printed_example()]);
+    rows.filter(|row| !decided.contains(&streams(row))).collect()
+}

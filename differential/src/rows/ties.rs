@@ -3,9 +3,7 @@
 
 use super::Promise::{Gives, Receives, Refused, Says};
 use super::directed::WIDE;
-use super::{
-    BENCH_TABLE, Promise, Row, bench, fold, merge, place, printed_example, receiver, supports,
-};
+use super::{BENCH_TABLE, Promise, Row, bench_without, fold, merge, place, receiver, supports};
 use crate::side::Ties;
 
 /// All rows with ties to the first.
@@ -21,8 +19,13 @@ pub fn decided_by_ties() -> Vec<Row> {
 
 /// Rows that are the same with ties to the second.
 pub fn whatever_ties() -> Vec<Row> {
-    let rows =
-        [bench_alike(), unlike(), cancelled(), no_tie_asked(), stricter_or_larger_receives()];
+    let rows = [
+        bench_without(&roots()),
+        unlike(),
+        cancelled(),
+        no_tie_asked(),
+        stricter_or_larger_receives(),
+    ];
     to_first(rows.concat())
 }
 
@@ -127,14 +130,6 @@ fn first_receives() -> Vec<Row> {
         ["U*", "O*[]"],
     ];
     pairs.map(|[first, second]| receiver(first, second, Receives(1))).into()
-}
-
-/// Document 01's other bench pairs, and its printed example.
-fn bench_alike() -> Vec<Row> {
-    let streams = |row: &Row| [row.call.first.clone(), row.call.second.clone()];
-    let decided: Vec<_> = roots().iter().map(streams).collect();
-    let rows = bench().into_iter().chain([printed_example()]);
-    rows.filter(|row| !decided.contains(&streams(row))).collect()
 }
 
 /// Equal sizes of unlike strictness, and unlike sizes: in either order.
