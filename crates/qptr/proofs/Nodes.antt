@@ -24,7 +24,16 @@ use Rattle.qptr.proofs.Orders.{less_size, less_strict, upto_strict}
 use Rattle.qptr.proofs.Usages.{head_size}
 use Rattle.qptr.specs.declared.Kind.{Kind}
 use Rattle.qptr.specs.declared.Kind.TheVariants.{Unused, StrictlyTyped, DirectAccess, OffsetBase, DynOffsetBase}
-use Rattle.qptr.specs.Values.{size_of, strictness_of, command_of, kind_of, part_by, OwnPart, Receives}
+use Rattle.qptr.specs.Values.{size_of, strictness_of, command_of, kind_of, part_by, part_by_command, OwnPart, Receives}
+
+-- a kind's node is that of its command
+pub by_command : (k : Kind) (z : Size) (n : ℕ) → part_by k z n ≡ part_by_command (command_of k) z n
+unfolding when◌then◌else◌
+by_command Unused z n = refl
+by_command StrictlyTyped z n = refl
+by_command DirectAccess z n = refl
+by_command OffsetBase z n = refl
+by_command DynOffsetBase z n = refl
 
 -- `first_receives`, of nodes
 abbrev pub node_receives : Choices → Node → Node → Bool

@@ -1,7 +1,8 @@
 -- What this crate's values stand for: sizes, kinds, rows of the command table, and nodes without their children.
 -- Assumes nothing.
-use Rattle.std.specs.Prelude.{ℕ, zero, suc, Bool, ◌≡◌, ◌<◌, Result, MatchResult}
-use Rattle.definitions.specs.Usage.{Size, fixed, dynamic, Usage, unused}
+use Rattle.std.specs.Prelude.{ℕ, zero, suc, Bool, ◌≡◌, ◌<◌, ltb, eqb, Result, MatchResult}
+use Rattle.definitions.specs.If.{when◌then◌else◌}
+use Rattle.definitions.specs.Usage.{Size, fixed, dynamic, Usage, UNUSED, unused}
 use Rattle.definitions.specs.Command.{Command as Row, Head, head_of}
 use Rattle.definitions.specs.Place.{first_receives}
 use Rattle.qptr.specs.Choices.{choices_in}
@@ -59,6 +60,13 @@ part_by StrictlyTyped z n = record { command = 0x01; size = z; argument = n }
 part_by DirectAccess z n = record { command = 0x02; size = z; argument = n }
 part_by OffsetBase z n = record { command = 0x03; size = z; argument = n }
 part_by DynOffsetBase z n = record { command = 0x04; size = z; argument = n }
+
+-- the own part with this command, size and argument: where no node has the command stands the placeholder
+abbrev pub part_by_command : ℕ → Size → ℕ → Head
+part_by_command c z n =
+    when eqb c 0x00 then head_of (unused z)
+    else when ltb 0x04 c then head_of UNUSED
+    else record { command = c; size = z; argument = n }
 
 -- the usage's own part is this node
 abbrev pub OwnPart : Node → Usage → Type 0

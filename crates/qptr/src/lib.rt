@@ -4,7 +4,7 @@
 ghost use Rattle.std.specs.Prelude.{◌≡◌, ◌<◌, true, false, Result};
 ghost use Rattle.definitions.specs.Usage.{Usage, unused, leaf, map, array, Entries, count};
 ghost use Rattle.definitions.specs.Command.{command_at};
-ghost use Rattle.qptr.specs.Values.{size_of, row_of, strictness_of, command_of, kind_of, part_of, part_by, NamesKind, OwnPart, Receives};
+ghost use Rattle.qptr.specs.Values.{size_of, row_of, strictness_of, command_of, kind_of, part_of, part_by, part_by_command, NamesKind, OwnPart, Receives};
 
 mod choices;
 
@@ -243,6 +243,16 @@ impl Node {
             Kind::DirectAccess => Node::direct_access(size, argument),
             Kind::OffsetBase => Node::offset_base(size, argument),
             Kind::DynOffsetBase => Node::dyn_offset_base(size, argument),
+        }
+    }
+
+    // The node with this command and these operands. An Unused has no argument. The placeholder stands for a command that no node has.
+    pub fn of(command: u8, size: MaxSize, argument: u32) -> Node
+        ensures { part_of result ≡ part_by_command command (size_of size) argument }
+    {
+        match Kind::try_from(u32::from(command)) {
+            Ok(kind) => Node::new(kind, size, argument),
+            Err(NoKind) => Node::UNUSED,
         }
     }
 
