@@ -30,7 +30,7 @@ pub fn end_of(start: u32, size: MaxSize) -> u32
 }
 
 // What an array contains at its length: an element of size 0, or nothing. The lookup is asked here alone.
-fn at_length(choices: Choices) -> Option<u32>
+pub fn at_length(choices: Choices) -> Option<u32>
     ensures { size_in result ≡ at_length (choices_in choices) }
 {
     match choices.lookup {

@@ -16,9 +16,9 @@ mod format;
 mod setting;
 mod table;
 
-pub use containment::{Component, end_of};
+pub use containment::{Component, at_length, end_of};
 pub use setting::Setting;
-pub use table::{Array, Components, FieldList, Table, TypeLayout};
+pub use table::{Array, Components, Field, FieldList, Table, TypeLayout};
 
 // How many records a table may have.
 pub const MAX_RECORDS: usize = 1024;
