@@ -32,9 +32,7 @@ use Rattle.place_states.specs.Calls.{Two, Beside}
 use Rattle.place_states.specs.Continuation.{joins, join_down, finish, UpTo, FromOn}
 use Rattle.place_states.specs.States.{Joins, Outside}
 use Rattle.place_states.specs.Starts.{Plain, Starts}
-use Rattle.std.specs.Prelude.{Option, Some, None, Result as Returned, Ok, Err}
-use Rattle.std.specs.Option.{ok_or}
-use Rattle.place_states.specs.declared.SizeRefusal.{SizeRefusal}
+use Rattle.std.specs.Prelude.{Result as Returned, Ok, Err}
 use Rattle.place_states.specs.declared.State.{State}
 use Rattle.place_states.specs.declared.TheConstants.State.{NONE}
 use Rattle.place_states.specs.declared.SizeRefusal.TheVariants.{Past32}
@@ -99,7 +97,7 @@ parted_nodes G = omega (arith, ap nodes_in G.is, append_nodes (onto G.low_down n
 stood : {es : Entries} {r : ℕ → ℕ} {lo hi : ℕ} {s : List ℕ} {a d : ℕ} {e : Size} {b : Overlap} {c : Bool} (G : Parted es r lo hi s a d e b c) → Ahead true G.mid G.high none r G.m G.m G.n hi s b.first b.above 0
 stood {r = r} {s = s} G = record { run = G.mid_held; rest = G.high_held; back = (down_none s r G.m, refl) }
 
-pub run_of : {s : List ℕ} {a d b e : ℕ} {o : Option Overlap} {found : Overlap} → Beside s a b → command_in s a ≡ 3 → Denotes e (ends d (size_in s b)) → Parts s a d e o → o ≡ Some found → Run s found.first found.above 0
+pub run_of : {s : List ℕ} {a d b e : ℕ} {o : Returned Overlap Overlap} {found : Overlap} → Beside s a b → command_in s a ≡ 3 → Denotes e (ends d (size_in s b)) → Parts s a d e o → o ≡ Ok found → Run s found.first found.above 0
 run_of {s} {a} {d} {b} {e} B c M F eo =
     let A = mapped B.two c in
     let G = (subst (Parts s a d e) eo F).parted (ends d (size_in s b)) A.es B.r (suc (B.r a)) B.mid M A.row A.finger in
@@ -149,16 +147,6 @@ from_starting d y none h = tt
 from_starting d dynamic (entry o u es) h = absurd (false≢true h.0)
 from_starting d (fixed n) (entry o u es) h = (omega (arith, leb-true (d + n) o h.0), from_starting d (fixed n) es h.1)
 
--- What the search gave, as a result
-
-pub is_found : (o : Option Overlap) (x : SizeRefusal) {r : Returned Overlap SizeRefusal} {found : Overlap} → r ≡ ok_or o x → r ≡ Ok found → o ≡ Some found
-is_found None x e h = cc
-is_found (Some y) x e h = cc
-
-pub not_found : (o : Option Overlap) (x : SizeRefusal) {y : SizeRefusal} {r : Returned Overlap SizeRefusal} → r ≡ ok_or o x → r ≡ Err y → (o ≡ None) × (y ≡ x)
-not_found None x e h = (refl, cc)
-not_found (Some b) x e h = cc
-
 -- Refused
 
 module _ {s : List ℕ} {a d b e : ℕ} (rep : Report) (P : Plain (command_in s b) d) (c : command_in s a ≡ 3) (M : Denotes e (ends d (size_in s b))) where
@@ -173,14 +161,14 @@ module _ {s : List ℕ} {a d b e : ℕ} (rep : Report) (P : Plain (command_in s 
   pub refused_end : {r : Bool} → Past e r → r ≡ true → Starts s a d b rep s rep (Err Past32)
   refused_end T t = refuses (λ setting z es r lo mid u N h g k. map_past setting z es d u (sym (T.of (ends d (size u)) N) ∙ t))
 
-  pub refused_entry : {o : Option Overlap} {r : Bool} {x : Returned State SizeRefusal} → d < 4294967296 → Past e r → r ≡ false → Parts s a d e o → o ≡ None → x ≡ Err Past32 → Starts s a d b rep s rep x
-  refused_entry small T t F eo ex = rw ex (refuses (λ setting z es r lo mid u N h g k.
+  pub refused_entry : {o : Returned Overlap Overlap} {found : Overlap} {r : Bool} → d < 4294967296 → Past e r → r ≡ false → Parts s a d e o → o ≡ Err found → Starts s a d b rep s rep (Err Past32)
+  refused_entry small T t F eo = refuses (λ setting z es r lo mid u N h g k.
       let y : Size = ends d (size u) in
-      let X = ((subst (Parts s a d e) eo F).parted y es r lo mid N h g).1 in
+      let X = (subst (Parts s a d e) eo F).parted y es r lo mid N h g in
       let low : Entries = onto X.low_down none in
       map_fine setting z es d u (sym (T.of y N) ∙ t)
       ∙ ap (λ x. join_found setting (place setting) z d u (overlapping d y x)) X.is
-      ∙ ap (join_found setting (place setting) z d u) (found_past d y low X.mid X.high (omega arith) X.low_ended X.mid_crossing (high_starting (length setting.table) X k.1) (sym X.mid_past))))
+      ∙ ap (join_found setting (place setting) z d u) (found_past d y low X.mid X.high (omega arith) X.low_ended X.mid_crossing (high_starting (length setting.table) X k.1) (sym X.mid_past)))
 
 -- Begun
 
@@ -199,8 +187,8 @@ start_state found d b rest base mark = record NONE {
 }
 
 -- s₁: those that overlap are linked downwards
-module _ (s s₁ : List ℕ) (a d b base mark rest e : ℕ) (found : Overlap) {o : Option Overlap} {t : Bool} (small : d < 4294967296) (P : Plain (command_in s b) d) (c : command_in s a ≡ 3) (M : Denotes e (ends d (size_in s b)))
-    (T : Past e t) (fits : t ≡ false) (F : Parts s a d e o) (eo : o ≡ Some found) (len : length s₁ ≡ length s) (X : Reversed s found.first found.above 0 s₁ rest) where
+module _ (s s₁ : List ℕ) (a d b base mark rest e : ℕ) (found : Overlap) {o : Returned Overlap Overlap} {t : Bool} (small : d < 4294967296) (P : Plain (command_in s b) d) (c : command_in s a ≡ 3) (M : Denotes e (ends d (size_in s b)))
+    (T : Past e t) (fits : t ≡ false) (F : Parts s a d e o) (eo : o ≡ Ok found) (len : length s₁ ≡ length s) (X : Reversed s found.first found.above 0 s₁ rest) where
   record Begun (k : ℕ) (y u : Usage) (r : ℕ → ℕ) (lo hi : ℕ) : Type 0 where
     z : Size
     low : Entries

@@ -195,7 +195,10 @@ pub fn begin_join(
     if past32(e) {
         return Err(SizeRefusal::Past32);
     }
-    let found = overlapping(s, a, d, e).ok_or(SizeRefusal::Past32)?;
+    let found = match overlapping(s, a, d, e) {
+        Ok(found) => found,
+        Err(_) => return Err(SizeRefusal::Past32),
+    };
     let rest = reverse(s, found.first, found.above, 0);
     let base = report.at;
     report.byte(0x30);

@@ -4,7 +4,7 @@ use Prim.Native.Nat.{ℕ, ◌+◌, ◌*◌, ◌≤◌}
 use mathlib.Core.Path.{◌≡◌, refl, sym, ap, ◌∙◌, subst}
 use mathlib.Core.Bool.{Bool, true, false}
 use mathlib.Core.List.{List}
-use Rattle.std.specs.Prelude.{Option, Some, None}
+use Rattle.std.specs.Prelude.{Result as Returned, Ok, Err}
 use native.Mathlib.Decide.{ℕ_discrete}
 use native.Mathlib.Omega.{arith}
 use lib.ListN.{length}
@@ -104,13 +104,13 @@ module _ {s : List ℕ} {d e low q l p : ℕ} (C : Cuts s q d e l p) where
         (last_ended (onto K.init B.below) o K.u d z (K.starts z M) K.ends) A ea
   ]
 
-  pub sought_found : (o : Option Overlap) → Told (Found s low q l p) o → Sought s d e low q o
-  sought_found (Some b) F = record { sought = parted_by b false F }
-  sought_found None F = record { sought = λ z es r lo hi a M B. (F.0, parted_by F.0 true F.1 z es r lo hi a M B) }
+  pub sought_found : (o : Returned Overlap Overlap) → Told (Found s low q l p) o → Sought s d e low q o
+  sought_found (Ok b) F = record { sought = parted_by b false F }
+  sought_found (Err b) F = record { sought = parted_by b true F }
 
 -- where none is left that starts before e, none overlaps
 
-pub sought_none : {s : List ℕ} {d e low q low' q' : ℕ} {c : Bool} → Skips s d e low q low' q' → Before s e q' c → c ≡ false → Sought s d e low q (Some (record { low = low'; first = q'; above = q' }))
+pub sought_none : {s : List ℕ} {d e low q low' q' : ℕ} {c : Bool} → Skips s d e low q low' q' → Before s e q' c → c ≡ false → Sought s d e low q (Ok (record { low = low'; first = q'; above = q' }))
 sought_none {s} {d} {e} {low' = low'} {q' = q'} K S stop = record {
   sought = λ z es r lo hi a M B₀.
       let B = K.skips z es r lo hi a M B₀ in
@@ -118,5 +118,5 @@ sought_none {s} {d} {e} {low' = low'} {q' = q'} K S stop = record {
       (record { mid = none; high = B.rest; n = B.m; is = refl; mid_held = row_none s q' r B.m; mid_crossing = λ y N. tt; high_held = B.row; high_starts = starts_at B.rest s q' r B.m hi (S.stopped stop) B.row }) refl;
 }
 
-pub sought_behind : {s : List ℕ} {d e low q low' q' : ℕ} {b : Option Overlap} → Skips s d e low q low' q' → Sought s d e low' q' b → Sought s d e low q b
+pub sought_behind : {s : List ℕ} {d e low q low' q' : ℕ} {b : Returned Overlap Overlap} → Skips s d e low q low' q' → Sought s d e low' q' b → Sought s d e low q b
 sought_behind K S = record { sought = λ z es r lo hi a M B. S.sought z es r lo hi a M (K.skips z es r lo hi a M B) }

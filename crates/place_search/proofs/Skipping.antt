@@ -4,7 +4,7 @@ use Prim.Native.Nat.{ℕ, ◌+◌, ◌*◌, ◌<◌, ◌≤◌}
 use mathlib.Core.Path.{◌≡◌, refl, sym, ap, ◌∙◌, subst}
 use mathlib.Core.Bool.{Bool, true, false}
 use mathlib.Core.List.{List}
-use Rattle.std.specs.Prelude.{Option}
+use Rattle.std.specs.Prelude.{Result as Returned}
 use native.Mathlib.Omega.{arith}
 use lib.ListN.{length}
 use Rattle.definitions.specs.Usage.{Size, fixed, Usage, Entries, none, entry, size, count}
@@ -117,10 +117,10 @@ module _ {s : List ℕ} {a f : ℕ} (L : Listed s a) (e : f ≡ argument_in s a)
 
 -- what was found from there on
 
-pub parts_first : {s : List ℕ} {a d e c : ℕ} {b : Option Overlap} → c ≡ child_in s a → Sought s d e 0 c b → Parts s a d e b
+pub parts_first : {s : List ℕ} {a d e c : ℕ} {b : Returned Overlap Overlap} → c ≡ child_in s a → Sought s d e 0 c b → Parts s a d e b
 parts_first eq S = record { parted = λ z es r lo hi M h F. S.sought z es r lo hi _ M (begun_first eq h) }
 
-pub parts_finger : {s : List ℕ} {a d e f l q : ℕ} {b : Option Overlap} {c : Bool} → f ≡ argument_in s a → Passes s f d e c → c ≡ true → l ≡ f → q ≡ next_in s f → Sought s d e l q b → Parts s a d e b
+pub parts_finger : {s : List ℕ} {a d e f l q : ℕ} {b : Returned Overlap Overlap} {c : Bool} → f ≡ argument_in s a → Passes s f d e c → c ≡ true → l ≡ f → q ≡ next_in s f → Sought s d e l q b → Parts s a d e b
 parts_finger {s} {a} {d} {e} {f} {q = q} {b = b} ef Q ok el eq S =
     let T : Sought s d e f q b = subst (λ (x : ℕ). Sought s d e x q b) el S in
     record {

@@ -1,6 +1,6 @@
 -- What the search for the entries that overlap finds: those below, those that overlap, and those above.
 -- Assumes nothing.
-use Rattle.std.specs.Prelude.{ℕ, suc, ◌+◌, ◌*◌, ◌≤◌, ◌≡◌, Bool, true, false, ◌||◌, List, length, Option, Some, None}
+use Rattle.std.specs.Prelude.{ℕ, suc, ◌+◌, ◌*◌, ◌≤◌, ◌≡◌, Bool, true, false, ◌||◌, List, length, Result as Returned, Ok, Err}
 use Rattle.definitions.specs.Limits.{node_limit}
 use Rattle.definitions.specs.Usage.{Size, fixed, Usage, Entries, none, entry, size, nodes_in, ◌<+>◌}
 use Rattle.definitions.specs.Place.{ends, past32, ◌≤ˢ◌}
@@ -60,11 +60,11 @@ pub record Parted (es : Entries) (r : ℕ → ℕ) (lo hi : ℕ) (s : List ℕ) 
   pub high_held : Row high s b.above 0 r n hi
   pub high_starts : Starts e high
 
--- P of what was found, where no entry that overlaps ends past 32 bits; and None where one does
-abbrev pub Told : (Overlap → Bool → Type 0) → Option Overlap → Type 0
-Told P (Some b) = P b false
-Told P None = (b : Overlap) × P b true
+-- P of what was found; it is an error where an entry that overlaps ends past 32 bits
+abbrev pub Told : (Overlap → Bool → Type 0) → Returned Overlap Overlap → Type 0
+Told P (Ok b) = P b false
+Told P (Err b) = P b true
 
 -- whatever entries are linked there, and whatever place the number e stands for
-pub record Parts (s : List ℕ) (a d e : ℕ) (b : Option Overlap) : Type 0 where
+pub record Parts (s : List ℕ) (a d e : ℕ) (b : Returned Overlap Overlap) : Type 0 where
   pub parted : (z : Size) (es : Entries) (r : ℕ → ℕ) (lo hi : ℕ) → Denotes e z → Row es s (child_in s a) 0 r lo hi → Finger es s a → Told (Parted es r lo hi s a d z) b

@@ -1,6 +1,6 @@
 -- How far the search has come: the entries that it has stepped over, and those that are still linked from a record on.
 -- Assumes nothing.
-use Rattle.std.specs.Prelude.{ℕ, ◌+◌, ◌*◌, ◌≤◌, ◌≡◌, Bool, true, false, List, length, Option}
+use Rattle.std.specs.Prelude.{ℕ, ◌+◌, ◌*◌, ◌≤◌, ◌≡◌, Bool, true, false, List, length, Result as Returned}
 use Rattle.definitions.specs.Usage.{Size, fixed, Entries, none, count}
 use Rattle.definitions.specs.Place.{ends, ◌≤ˢ◌}
 use Rattle.records.specs.Records.{size_in, offset_in}
@@ -60,5 +60,5 @@ pub record Skips (s : List ℕ) (d e low q low' q' : ℕ) : Type 0 where
   pub skips : (z : Size) (es : Entries) (r : ℕ → ℕ) (lo hi a : ℕ) → Denotes e z → Begun es r lo hi s a d z low q → Begun es r lo hi s a d z low' q'
 
 -- whatever had begun so is parted by b
-pub record Sought (s : List ℕ) (d e low q : ℕ) (b : Option Overlap) : Type 0 where
+pub record Sought (s : List ℕ) (d e low q : ℕ) (b : Returned Overlap Overlap) : Type 0 where
   pub sought : (z : Size) (es : Entries) (r : ℕ → ℕ) (lo hi a : ℕ) → Denotes e z → Begun es r lo hi s a d z low q → Told (Parted es r lo hi s a d z) b

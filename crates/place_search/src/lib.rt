@@ -221,7 +221,7 @@ fn cut_all(s: &[u8], q: usize, range: Range) -> Cut
 }
 
 // Those behind the cut's `low` overlap, up to its `above`; where `low` is 0, those behind `from`.
-fn found(s: &[u8], from: Reached, cut: Cut) -> Option<Overlap>
+fn found(s: &[u8], from: Reached, cut: Cut) -> Result<Overlap, Overlap>
     requires { Reaches s.now from.next cut.low cut.above }
     ensures { Told (Found s.now from.low from.next cut.low cut.above) result }
 {
@@ -230,18 +230,19 @@ fn found(s: &[u8], from: Reached, cut: Cut) -> Option<Overlap>
     } else {
         Reached::past(s, cut.low)
     };
-    if any_past(s, to.next, cut.above) {
-        return None;
-    }
-    Some(Overlap {
+    let overlap = Overlap {
         low: to.low,
         first: to.next,
         above: cut.above,
-    })
+    };
+    if any_past(s, to.next, cut.above) {
+        return Err(overlap);
+    }
+    Ok(overlap)
 }
 
 // The entries behind `from`; those up to it are below. No table is made where none overlaps.
-fn behind(s: &[u8], from: Reached, range: Range) -> Option<Overlap>
+fn behind(s: &[u8], from: Reached, range: Range) -> Result<Overlap, Overlap>
     requires { Linked s.now from.next 0 }
     ensures { Sought s.now range.start range.end from.low from.next result }
 {
@@ -249,17 +250,17 @@ fn behind(s: &[u8], from: Reached, range: Range) -> Option<Overlap>
     if starts_before(s, to.next, range.end) {
         return found(s, to, cut_all(s, to.next, range));
     }
-    Some(Overlap {
+    Ok(Overlap {
         low: to.low,
         first: to.next,
         above: to.next,
     })
 }
 
-// The entries of the map at record a that overlap what starts at d and ends at e. None: one of them ends past 32 bits. The search starts
-// behind the map's finger, if that entry starts before e and ends by d, since then no entry before it overlaps; and else at the first. The
+// The entries of the map at record a that overlap what starts at d and ends at e; as an error where one of them ends past 32 bits. The search
+// starts behind the map's finger, if that entry starts before e and ends by d, since then no entry before it overlaps; and else at the first. The
 // finger is kept in 32 bits, of which `usize` has no From.
-pub fn overlapping(s: &[u8], a: usize, d: u32, e: u64) -> Option<Overlap>
+pub fn overlapping(s: &[u8], a: usize, d: u32, e: u64) -> Result<Overlap, Overlap>
     requires { Listed s.now a }
     ensures { Parts s.now a d e result }
 {

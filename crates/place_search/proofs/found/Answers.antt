@@ -1,5 +1,5 @@
--- `place_search::found` meets its contract: where it is None, there is what it would have told. The entries up to `to` are below: those up to
--- the cut's `low`, and where that is 0 those up to `from`.
+-- `place_search::found` meets its contract: the entries up to `to` are below, those up to the cut's `low`, and where that is 0 those up to
+-- `from`.
 use Rattle.std.proofs.Common.{◌≡◌, refl}
 use Rattle.records.specs.Records.{next_in}
 use Rattle.place_search.specs.Cutting.{Between}
@@ -24,11 +24,8 @@ any_past-requires c = behind_to c
 
 pub returns-then-any_past : goal.returns-then-any_past
 returns-then-any_past c =
-    let to = c.if-cut-eq0.to in
-    let joined = (goal.at.returns-then-any_past c).Joined-cut-eq0 in (
-      record { low = to.low; first = to.next; above = c.args.cut.above },
-      record { none = from_start joined; one = from_low joined; above = refl; past = c.if-any_past.ensures },
-    )
+    let joined = (goal.at.returns-then-any_past c).Joined-cut-eq0 in
+    record { none = from_start joined; one = from_low joined; above = refl; past = c.if-any_past.ensures }
 
 pub returns : goal.returns
 returns c =
