@@ -1,5 +1,5 @@
 #!/usr/bin/env bash
-# Compiles and links the example, runs it, and holds what it prints to example.expected.
+# Compiles and links the example, runs it, and holds what it prints to example.expected, and what the library needs from outside to memset.
 #
 # The library is taken from the folder PAPERSLOE_LIB_DIR, if that is set, and else from the repository's
 # target/staticlib, where the toolchain proves and builds it if it is not there or older than its sources. CC names the compiler.
@@ -12,6 +12,13 @@ if [ -z "${PAPERSLOE_LIB_DIR:-}" ]; then
 elif [ ! -f "$folder/libexports.a" ]; then
   echo "example.sh: PAPERSLOE_LIB_DIR is $folder, which has no libexports.a" >&2
   exit 2
+fi
+
+# Who links the library without a C library brings this one function.
+needed=$(nm -u "$folder/libexports.a" | awk '$1 == "U" { print $2 }' | sort -u | tr '\n' ' ')
+if [ "$needed" != "memset " ]; then
+  echo "example.sh: the library needs from outside: ${needed:-nothing}, where memset alone is expected" >&2
+  exit 1
 fi
 
 built=$(mktemp -d)

@@ -8,8 +8,8 @@ use lib.ListN.{length, take, drop, replicate, length-append, length-drop}
 use lib.Seq.{take_at}
 
 module _ (w report : List ℕ) where
-  pub reported : {copied zeroed : List ℕ} → copied ≡ w → length w ≤ length report
-      → zeroed ≡ take (length w) (copied ++ drop (length w) report) ++ replicate (length (copied ++ drop (length w) report) - length w) 0
+  pub reported : {copied zeroed : List ℕ} → copied ≡ w ++ drop (length w) report → length w ≤ length report
+      → zeroed ≡ take (length w) copied ++ replicate (length copied - length w) 0
       → zeroed ≡ w ++ replicate (length report - length w) 0
   reported is room e =
       let rest = drop (length w) report in

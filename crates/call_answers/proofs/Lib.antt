@@ -1,3 +1,4 @@
+pub mod Copying
 pub mod Giving
 pub mod Finishing
 pub mod Keeping

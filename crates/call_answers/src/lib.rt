@@ -2,7 +2,7 @@
 // report, once it is known that both fit.
 #![tactic(auto)]
 
-ghost use Rattle.std.specs.Prelude.{◌≡◌, [], Result, Ok, OnOk, OnErr, length, replicate};
+ghost use Rattle.std.specs.Prelude.{◌≡◌, ◌≤◌, [], ◌++◌, Result, Ok, OnOk, OnErr, length, drop, replicate};
 ghost use Rattle.definitions.specs.Place.{done};
 ghost use Rattle.definitions.specs.Calls.{refusal, written};
 ghost use Rattle.place_states.specs.Refusals.{number_of as size_number};
@@ -182,6 +182,17 @@ pub fn finish(
     cleared(r, report.buffer)
 }
 
+// The bytes go to the start of `to`. They go one by one: of a length that is not known, the library's call for it is one of C's memcpy or
+// memmove, which an archive for C would ask of whoever links it.
+fn copy(from: &[u8], to: &mut [u8])
+    requires { length from.now ≤ length to.old }
+    ensures { to.new ≡ from.now ++ drop (length from.now) to.old }
+{
+    for i in 0..from.len() {
+        to[i] = from[i];
+    }
+}
+
 // What is reported of two tops of which the first stays: conflict 37, or nothing.
 fn unlike_report(unlike: bool) -> &'static [u8]
     ensures { result.now ≡ unlike_report unlike }
@@ -205,8 +216,8 @@ fn write_first(
     if rep.len() < report.len() {
         return Err(Refusal::ShortReport);
     }
-    output[..first.len()].copy_from_slice(first);
-    rep[..report.len()].copy_from_slice(report);
+    copy(first, output);
+    copy(report, rep);
     report::zero(rep, report.len());
     Ok(Written {
         usage: first.len(),

@@ -1,9 +1,7 @@
 -- `write_first` meets its contract: 10 and 11 are decided, then the stream and the report are copied.
-use Prim.Native.Nat.{ℕ}
 use mathlib.Core.Path.{refl, ap}
-use mathlib.Core.List.{List, ◌++◌}
 use native.Mathlib.Omega.{arith}
-use lib.ListN.{length, drop}
+use lib.ListN.{length}
 use Rattle.call_answers.specs.Writing.{unlike_report}
 use Rattle.call_answers.proofs.Giving.{comes_10, comes_11, comes_written}
 use Rattle.call_answers.proofs.Keeping.{reported}
@@ -26,5 +24,5 @@ returns c =
     let w = c.unlike_report-report.result.now in
     rw (← is)
     (comes_written a.output.now (length a.rep.now) a.first.now w 0 c.if-output-first.false c.if-rep-report.false _ refl refl refl
-    (ap (λ (bs : List ℕ). bs ++ drop (length a.first.now) a.output.now) c.copy_from_slice.ensures.after)
-    (reported w a.rep.now c.copy_from_slice-2.ensures.after c.if-rep-report.false c.zero.ensures))
+    c.copy.ensures
+    (reported w a.rep.now c.copy-2.ensures c.if-rep-report.false c.zero.ensures))
