@@ -1,70 +1,68 @@
--- What `sound` answers, by what was met: a refusal, or what is said of the usage that was loaded, which is the one that was read.
+-- What `sound` answers, by what was found of the table and of the stream: the refusals in their order, then what is said of the usage
+-- that was loaded, which is the one that was read.
 -- Assumes nothing.
-use Prim.Native.Nat.{ℕ}
-use mathlib.Core.Path.{◌≡◌, sym, ap}
+use Prim.Native.Nat.{ℕ, ◌<◌, ◌≤◌}
+use mathlib.Core.Path.{◌≡◌}
 use mathlib.Core.Bool.{Bool}
 use mathlib.Core.List.{List, []}
-use mathlib.Core.Option.{some}
+use mathlib.Core.Option.{none as nothing}
 use native.Mathlib.Omega.{arith}
+use borrow.Author.Tests.{le-leb, lt-leb}
+use lib.Dec.{leb}
 use lib.ListN.{length}
 use Rattle.std.specs.Prelude.{Ok, Err}
-use Rattle.definitions.specs.Usage.{Usage, nodes}
+use Rattle.definitions.specs.Limits.{node_limit, work_limit}
 use Rattle.definitions.specs.Stream.{memory_of}
-use Rattle.definitions.specs.Table.{Table}
 use Rattle.definitions.specs.Place.{Result, done}
 use Rattle.definitions.specs.Sound.{sound}
-use Rattle.definitions.specs.Calls.{types_in, said, sound_call}
-use Rattle.stream.specs.Found.{type_bound}
-use Rattle.stream_load.specs.Loading.{Loadable, Loaded}
+use Rattle.definitions.specs.Calls.{checked, refusal, said, sound_call}
+use Rattle.stream_load.specs.Loading.{Loaded}
 use Rattle.soundness.specs.Preorder.{UsageFrom, Tested}
 use Rattle.call_answers.specs.Answers.{said_of}
 use Rattle.call_answers.specs.declared.Refusal.{Refusal}
-use Rattle.call_inputs.specs.Inputs.{Good, Met}
-use Rattle.call_inputs.specs.declared.Nodes.{Nodes}
+use Rattle.call_inputs.specs.Inputs.{Begun, TableMet}
 use Rattle.call_inputs.proofs.Types.{types_in_lem}
-use Rattle.call_inputs.proofs.Accepting.{none_told, nothing_more, alone, as_two, Going, goes_on}
-use Rattle.calls.proofs.Calling.{Call, call_refused, call_goes}
-use Rattle.calls.proofs.Memories.{Memory, told_memory, read_as}
-use Rattle.calls.proofs.Loads.{loadable, usage_at}
+use Rattle.call_inputs.proofs.Refusals.{table_refused, good_table, unknown_type, many_nodes, few_nodes}
+use Rattle.calls.proofs.Memories.{Memory}
+use Rattle.calls.proofs.Loads.{usage_at}
 
-abbrev tested_as : Table → Usage → Result Bool
-tested_as t u = done (sound u) [] 0
+-- The refusals
 
-module _ (table : List ℕ) (work : ℕ) (s : List ℕ) where
-  pub sound_is : Call nodes type_bound nothing_more nothing_more (alone tested_as) table work (memory_of s) (some tt) said (sound_call table work s)
+pub sound_tableless : {table starts : List ℕ} {work : ℕ} {e : Refusal} → TableMet table work starts (Err e) → (s : List ℕ) → said_of (Err e) ≡ sound_call table work s
+unfolding sound_call
+sound_tableless met s = rw (table_refused _ met)
+
+module _ {table starts : List ℕ} {work k : ℕ} (t : Begun table work starts k) where
+  pub sound_broken : (s : List ℕ) → memory_of s ≡ nothing → sound_call table work s ≡ refusal 3
   unfolding sound_call
-  sound_is = record { is = ap said (as_two nodes type_bound tested_as types_in types_in_lem table work (memory_of s)) }
+  sound_broken s e = rw (good_table _ t, e)
 
-  module _ {starts : List ℕ} where
-    pub sound_refused : {e : Refusal} → Met table work (told_memory s) none_told starts (Err e) → said_of (Err e) ≡ sound_call table work s
-    sound_refused met = sym (call_refused sound_is met)
+  module _ {s : List ℕ} {n b : ℕ} (m : Memory s n b) where
+    abbrev tested : Result Bool
+    tested = done (sound m.usage) [] 0
 
-    module _ {n : Nodes} (good : Good table work (told_memory s) none_told starts n) where
-      pub going : Going nodes type_bound nothing_more nothing_more (alone tested_as) table work (memory_of s) (some tt) good.begun.records.layouts n.first n.second
-      going = goes_on nodes type_bound nothing_more nothing_more (alone tested_as) table work (memory_of s) (some tt) good
+    asked : sound_call table work s ≡ said (checked (leb b k) n tested)
+    unfolding sound_call
+    asked = rw (good_table _ t, m.is, types_in_lem t.records.layouts m.usage, t.records.count, ← m.bounded, ← m.counted)
 
-      pub memory : Memory s n.first (type_bound going.first)
-      memory = read_as s going.first going.first_is going.first_nodes
+    pub sound_unknown : k < b → sound_call table work s ≡ refusal 5
+    sound_unknown h = rw (asked, unknown_type (leb b k) n tested (lt-leb b k h))
 
-      -- there is room for it in the work area, and it stands there
+    module _ (known : b ≤ k) where
+      pub sound_many : node_limit < n → sound_call table work s ≡ refusal 7
+      sound_many more = rw (asked, many_nodes (leb b k) n tested (le-leb b k known) more)
 
-      pub sound_loadable : {area : List ℕ} → length area ≡ work → Loadable s 1 n.first area 1
-      sound_loadable long = loadable memory (omega (arith, good.few)) (omega (arith, good.begun.enough, long))
+      -- the usage that is loaded stands in the work area, and is tested there
 
-      module _ {area area' : List ℕ} {end : ℕ} (loaded : Loaded s 1 area 1 area' end) where
-        pub sound_standing : length area' ≡ work → UsageFrom area' 1
-        sound_standing long =
-            let m = memory in
-            record {
-              usage = m.usage;
-              offset = 0;
-              stands = usage_at m loaded;
-              inside = omega (arith, m.counted, good.few, good.begun.enough, long);
-              few = omega (arith, m.counted, good.few);
-            }
+      module _ (few : n ≤ node_limit) {area area' : List ℕ} {end : ℕ} (loaded : Loaded s 1 area 1 area' end) where
+        pub sound_standing : work_limit ≤ length area' → UsageFrom area' 1
+        sound_standing enough = record {
+          usage = m.usage;
+          offset = 0;
+          stands = usage_at m loaded;
+          inside = omega (arith, m.counted);
+          few = omega (arith, m.counted);
+        }
 
         pub sound_said : {r : Bool} → Tested area' 1 r → said_of (Ok r) ≡ sound_call table work s
-        sound_said t =
-            let m = memory in
-            let is : m.usage ≡ going.first = cc (m.is, going.first_is) in
-            rw (t.of m.usage 0 (usage_at m loaded), is) (sym (call_goes sound_is going))
+        sound_said says = rw (says.of m.usage 0 (usage_at m loaded), asked, few_nodes (leb b k) n tested (le-leb b k known) few)

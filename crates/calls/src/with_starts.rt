@@ -34,7 +34,8 @@ fn area() -> usize
 // What stands for the second stream of a call that has one: no node and no type is asked of it.
 const NOTHING: Option<Found> = Some(Found { nodes: 0, types: 0 });
 
-// Is the usage of a Memory stream sound? It is loaded into the work area, whose contents do not matter.
+// Is the usage of a Memory stream sound? It is loaded into the work area, whose contents do not matter. The stream is looked at behind refusals 1
+// and 2: in a short work area it could take the square of its length.
 pub(super) fn sound(
     table: &[u8],
     work: &mut [u8],
@@ -44,9 +45,11 @@ pub(super) fn sound(
     requires { Room table.now starts.old }
     ensures { said_of result ≡ sound_call table.now (length work.old) s.now }
 {
-    let found = stream::memory(s, work);
-    let nodes = accept(table, work, starts, found, NOTHING)?;
-    stream_load::load(s, 1, nodes.first, work, 1);
+    let types = accept_table(table, work, starts)?;
+    let found = stream::memory(s, work).ok_or(Refusal::BadFirst)?;
+    known_types(types, found.types)?;
+    few_nodes(found.nodes)?;
+    stream_load::load(s, 1, found.nodes, work, 1);
     Ok(soundness::sound(work, 1))
 }
 
