@@ -1,6 +1,6 @@
 -- What a record says (differential/README.md, "The recorded answers"), and that it is what the definition of its call gives.
 -- Assumes nothing.
-use Rattle.std.specs.Prelude.{ℕ, ◌+◌, ◌≤◌, ◌≡◌, List, [], eqb, get_or, take, drop, replicate, Option as Maybe, None, Some}
+use Rattle.std.specs.Prelude.{ℕ, ◌+◌, ◌≤◌, ◌≡◌, Bool, not, List, [], eqb, get_or, take, drop, replicate, Option as Maybe, None, Some}
 use Rattle.definitions.specs.If.{when◌then◌else◌}
 use Rattle.definitions.specs.Calls.{Answer, Written, receiver_call, supports_call, place_call, merge_call, fold_call, sound_call}
 use Rattle.definitions.specs.Requests.Choices.{Choices, choices_of}
@@ -60,6 +60,12 @@ pub data Agrees (r : Recorded) : ℕ → Type 0 where
   supports : Says r.tail 10 (supports_call (chosen r) r.parts.table (word r.head 1) (word r.head 5) (word r.head 9) r.parts.first) → Agrees r 1
   writing : (call : ℕ) → 2 ≤ call → call ≤ 4 → Writes r call → Agrees r call
   sound : Says r.tail 10 (sound_call r.parts.table (word r.head 1) r.parts.first) → Agrees r 5
+
+-- What came of a record
+
+-- it is counted once, and as different unless it is the same
+abbrev pub Counted : Bool → Counts → Type 0
+Counted is_same c = (c.compared ≡ 1) × (c.different ≡ bit (not is_same))
 
 -- one that is counted without a difference is a record, and states what the definition of its call gives
 abbrev pub Agreed : List ℕ → Maybe Counts → Type 0

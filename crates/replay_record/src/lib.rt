@@ -8,7 +8,7 @@ ghost use Rattle.qptr.specs.Choices.{choices_in};
 ghost use Rattle.call_answers.specs.Answers.{answer_of};
 ghost use Rattle.call_answers.specs.Writing.{Gives};
 ghost use Rattle.replay_record.specs.Parts.{number_of, writing_number, NamesCall, Recording, Fits, Single, Begins};
-ghost use Rattle.replay_record.specs.Agrees.{Says, Holds, chosen, called, Writes, Agrees, Agreed};
+ghost use Rattle.replay_record.specs.Agrees.{Says, Holds, chosen, called, Writes, Agrees, Counted, Agreed};
 
 use call_answers::{Answer, Refusal, Written};
 use merge_line::{Parts, three_blocks, zeros};
@@ -278,6 +278,16 @@ fn begins(buf: &[u8], bytes: &[u8], rest: u8) -> bool
     front == bytes && only(behind, rest)
 }
 
+// A record that was compared is counted once, and as different unless it agrees.
+fn compared(agrees: bool) -> Counts
+    ensures { Counted agrees result }
+{
+    Counts {
+        compared: 1,
+        different: u32::from(!agrees),
+    }
+}
+
 // One record, without its length in front.
 pub fn run(s: &[u8]) -> Option<Counts>
     ensures single { Single result }
@@ -285,9 +295,5 @@ pub fn run(s: &[u8]) -> Option<Counts>
 {
     let record = Record::read(s)?;
     let call = Call::of(record.head[0])?;
-    let agrees = record.agrees(call);
-    Some(Counts {
-        compared: 1,
-        different: u32::from(!agrees),
-    })
+    Some(compared(record.agrees(call)))
 }
