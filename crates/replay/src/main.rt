@@ -72,21 +72,23 @@ fn replay(file: &mut File) -> Result<Replayed, Broken> {
     Ok(Replayed { records, counts })
 }
 
-// Each line is printed in one place, so it stands there and in no Display.
+// Each line is printed in one place, so it stands there and in no Display. Its first word comes before the file is read: where nothing can be
+// printed, nothing is run.
 fn main(rt: HostRuntime) -> io::Result<()> {
     let path = "answers.bin";
     let mut file = match File::open(&rt, path) {
         Ok(file) => file,
         Err(error) => return eprintln!(rt; "{path}: {error}"),
     };
+    print!(rt; "replay: ")?;
     match replay(&mut file) {
         Ok(Replayed { records, counts }) => {
             let Counts {
                 compared,
                 different,
             } = counts;
-            println!(rt; "replay: {records} records, {compared} compared, {different} different")
+            println!(rt; "{records} records, {compared} compared, {different} different")
         }
-        Err(Broken { records }) => println!(rt; "replay: {records} records, then a broken one"),
+        Err(Broken { records }) => println!(rt; "{records} records, then a broken one"),
     }
 }
