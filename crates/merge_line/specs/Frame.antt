@@ -67,7 +67,7 @@ answer_line w =
     digits w.answer.number ++ 0x20 ∷ digits w.answer.pairings ++ 0x20 ∷
     hex (take w.answer.usage w.output) ++ 0x20 ∷ hex (take w.answer.report w.report) ++ 0x0A ∷ []
 
--- `merge_line` where the input is not three blocks
+-- `frame` where the input is not three blocks
 abbrev pub line_for : Option Blocks → List ℕ
 line_for nothing = 0x66 ∷ 0x72 ∷ 0x61 ∷ 0x6D ∷ 0x65 ∷ 0x0A ∷ []
 line_for (some b) = answer_line (merge_call rust b.table work_limit b.first b.second (zeros buffer_length) buffer_length)
